@@ -3,3 +3,4 @@
 pub mod instance;
 pub mod keyed;
 pub mod policy;
+pub mod selector;

@@ -2,5 +2,6 @@
 
 pub mod instance;
 pub mod keyed;
+pub mod layers;
 pub mod policy;
 pub mod selector;

@@ -1,0 +1,4 @@
+pub mod ByKey
+pub mod Coded
+pub mod Groups
+pub mod Laws

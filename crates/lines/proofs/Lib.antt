@@ -4,3 +4,6 @@ pub mod Sizes
 pub mod Names
 pub mod Fits
 pub mod Order
+pub mod Walks
+pub mod Spells
+pub mod Returns

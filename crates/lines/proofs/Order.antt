@@ -14,7 +14,7 @@ use Rattle.lines.specs.declared.shape.Stage.the-variants.{Opening}
 use Rattle.lines.specs.declared.word.Word.{Word}
 use Rattle.lines.specs.Shapes.{misplaced}
 use Rattle.lines.specs.Parts.{Placed, parts}
-use Rattle.lines.specs.Forms.{kinds, behind, misfit}
+use Rattle.lines.specs.Forms.{word-named, kinds, front, behind, misfit}
 use Rattle.lines.specs.Reading.{unless, bad-sign, bad-item, word-read, items-read, parts-read, reading}
 
 -- no fault was found
@@ -27,15 +27,35 @@ pub fault-found : {T U : Type 0} (fault : ℕ → Told) (o : Option ℕ) (x : T)
 fault-found fault None x y t e = absurd (let z : _≡_ {A = ℕ} 0 1 = cc in omega arith)
 fault-found {T} fault (Some place) x y t e = let s : t ≡ fault place = cc in ap (λ u. Err u) s
 
-module _ (line : List ℕ) where
-  abbrev all : List Placed
-  all = parts 1 (drop 1 line)
+-- an answer stands only where no fault was found
+pub answer-stands : {T : Type 0} (fault : ℕ → Told) (o : Option ℕ) (a : Result T Told) (x : T) → unless fault o a ≡ Ok x → (o ≡ None) × (a ≡ Ok x)
+answer-stands fault None a x e = (refl, e)
+answer-stands fault (Some place) a x e = absurd (let z : _≡_ {A = ℕ} 0 1 = cc in omega arith)
 
-  -- a line with a good shape and a word
-  pub by-items : (word : Word) → misplaced Opening 0 line ≡ None → word-read all ≡ Ok word → reading line ≡ unless bad-item (misfit (length line - 1) (kinds word) (behind all)) (items-read word (behind all))
-  by-items word shape found =
-      ap (λ o. unless bad-sign o (parts-read (length line - 1) all)) shape
-      ∙ ap (λ (w : Result Word Told). elim w [
-        | Ok word ↦ unless bad-item (misfit (length line - 1) (kinds word) (behind all)) (items-read word (behind all))
-        | Err fault ↦ Err fault
-      ]) found
+-- parts with a known word, or with none
+module _ (ps : List Placed) where
+  abbrev told-word : Option Word → Result Word Told
+  told-word o = elim o [ Some word ↦ Ok word | None ↦ Err (bad-item 1) ]
+
+  pub word-known : (word : Word) → word-named (front ps .text) ≡ Some word → word-read ps ≡ Ok word
+  word-known word found = ap told-word found
+
+  pub word-unknown : word-named (front ps .text) ≡ None → word-read ps ≡ Err (bad-item 1)
+  word-unknown found = ap told-word found
+
+  module _ (end : ℕ) where
+    abbrev told-items : Result Word Told → Result Form Told
+    told-items r = elim r [
+      | Ok word ↦ unless bad-item (misfit end (kinds word) (behind ps)) (items-read word (behind ps))
+      | Err fault ↦ Err fault
+    ]
+
+    pub parts-known : (word : Word) → word-read ps ≡ Ok word → parts-read end ps ≡ unless bad-item (misfit end (kinds word) (behind ps)) (items-read word (behind ps))
+    parts-known word found = ap told-items found
+
+    pub parts-unknown : (fault : Told) → word-read ps ≡ Err fault → parts-read end ps ≡ Err fault
+    parts-unknown fault found = ap told-items found
+
+-- a line with a good shape is read by its parts
+pub by-parts : (line : List ℕ) → misplaced Opening 0 line ≡ None → reading line ≡ parts-read (length line - 1) (parts 1 (drop 1 line))
+by-parts line shape = ap (λ o. unless bad-sign o (parts-read (length line - 1) (parts 1 (drop 1 line)))) shape

@@ -16,7 +16,7 @@ use Rattle.lines.specs.declared.shape.Stage.the-variants.{Opening, WordDue, In
 use Rattle.lines.specs.Signs.{sign-of}
 use Rattle.lines.specs.Shapes.{step, misplaced, closed}
 
-abbrev onward : ℕ → List ℕ → Option Stage → Option ℕ
+abbrev pub onward : ℕ → List ℕ → Option Stage → Option ℕ
 onward at bs o = elim o [ None ↦ Some at | Some next ↦ misplaced next (at + 1) bs ]
 
 -- a sign that can follow

@@ -4,3 +4,6 @@ pub mod Parts
 pub mod Numbers
 pub mod Forms
 pub mod Reading
+pub mod Grammar
+pub mod Spelling
+pub mod Laws

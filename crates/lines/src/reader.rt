@@ -9,7 +9,8 @@ ghost use Rattle.std.specs.declared.result.Result.the-variants.{Ok};
 ghost use Rattle.bus.specs.Refusals.{answered};
 ghost use Rattle.lines.specs.Parts.{left, last-place};
 ghost use Rattle.lines.specs.Forms.{kinds, front, behind, policy-named, policy, misfit};
-ghost use Rattle.lines.specs.Reading.{bad-item, unless, word-read, items-read, reading, Numbered, Figured};
+ghost use Rattle.lines.specs.Reading.{bad-item, unless, word-read, items-read, Numbered, Figured};
+ghost use Rattle.lines.specs.Laws.{Reads};
 use crate::form::Figures;
 use crate::form::Form;
 use crate::form::PolicyName;
@@ -138,7 +139,7 @@ fn read_items(word: Word, mut rest: Rest) -> Result<Form, Refusal>
 
 // What the line says, or its first fault.
 pub fn read_form(line: &[u8]) -> Result<Form, Refusal>
-    ensures { λ r. ⌜ answered r ≡ reading (now (line .entry)) ⌝ }
+    ensures { λ r. ⌜ Reads (now (line .entry)) r ⌝ }
 {
     check_shape(line)?;
     let mut rest = Rest::of(line);

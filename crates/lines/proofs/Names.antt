@@ -1,0 +1,29 @@
+-- A name is looked for in a list. Assumes nothing.
+use mathlib.Core.Path.{_≡_, refl, sym, ap, _∙_}
+use mathlib.Core.Bool.{Bool, true, false, cond}
+use mathlib.Core.List.{List, [], _∷_}
+use Prim.Native.Nat.{ℕ, _+_, _<_, _≤_}
+use lib.ListN.{length, getD, drop}
+use Rattle.std.specs.declared.option.Option.the-variants.{Some, None}
+use Rattle.std.specs.Orderings.{Decides}
+use Rattle.std.specs.shelf.Text.{sameBytes}
+use Rattle.std.proofs.shelf.Equals.{sameBytes-decides}
+use Rattle.std.proofs.shelf.Ways.{same-from-decides}
+use Rattle.std.proofs.shelf.Lists.{at-drop-more, at-drop-all}
+use Rattle.std.proofs.shelf.Tests.{cond-true, cond-false}
+use Rattle.lines.specs.Forms.{named}
+
+module _ {X : Type 0} (text : X → List ℕ) (t : List ℕ) (xs : List X) (i : ℕ) (d : X) (s : List ℕ) (found : Bool) (lt : i < length xs) (spelled : s ≡ text (getD xs i d)) (tells : Decides found (t ≡ s)) where
+  at-it : named text t (drop i xs) ≡ cond found (Some (getD xs i d)) (named text t (drop (i + 1) xs))
+  at-it =
+      at-drop-more (named text t) xs i d lt
+      ∙ ap (λ w. cond (sameBytes t w) (Some (getD xs i d)) (named text t (drop (i + 1) xs))) (sym spelled)
+      ∙ ap (λ b. cond b (Some (getD xs i d)) (named text t (drop (i + 1) xs))) (same-from-decides _ _ (sameBytes-decides t s) tells)
+
+  -- the name at i is the one, and is the answer
+  pub hit : found ≡ true → named text t (drop i xs) ≡ named text t xs → Some (getD xs i d) ≡ named text t xs
+  hit so before = sym (at-it ∙ cond-true found _ _ so) ∙ before
+
+  -- it is not, and the search goes on
+  pub miss : found ≡ false → named text t (drop i xs) ≡ named text t xs → named text t (drop (i + 1) xs) ≡ named text t xs
+  miss so before = sym (at-it ∙ cond-false found _ _ so) ∙ before

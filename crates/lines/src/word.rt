@@ -1,0 +1,136 @@
+// The words of the forms, and the items that follow each.
+ghost use mathlib.Core.Path.{_≡_};
+ghost use Rattle.lines.specs.Forms.{word-text, policy-text, word-named, policy-named, kinds, takes, is-number};
+use crate::form::PolicyName;
+
+#[derive(Clone, Copy)]
+pub enum Word {
+    Window,
+    Policy,
+    Drop,
+    Next,
+    Which,
+    Frame,
+    Add,
+    Alter,
+}
+
+// What may stand at an item's position.
+#[derive(Clone, Copy)]
+pub enum Kind {
+    // a number up to 255
+    Byte,
+    // a number up to 65,535
+    HalfWord,
+    PolicyName,
+}
+
+const WORDS: [Word; 8] = [
+    Word::Window,
+    Word::Policy,
+    Word::Drop,
+    Word::Next,
+    Word::Which,
+    Word::Frame,
+    Word::Add,
+    Word::Alter,
+];
+
+const POLICIES: [PolicyName; 4] = [
+    PolicyName::RateMonotonic,
+    PolicyName::DeadlineMonotonic,
+    PolicyName::Priority,
+    PolicyName::EarliestDeadline,
+];
+
+fn policy_text(policy: PolicyName) -> &'static [u8]
+    ensures { λ r. ⌜ now r ≡ policy-text policy ⌝ }
+{
+    match policy {
+        PolicyName::RateMonotonic => b"rm",
+        PolicyName::DeadlineMonotonic => b"dm",
+        PolicyName::Priority => b"pr",
+        PolicyName::EarliestDeadline => b"edf",
+    }
+}
+
+pub fn policy_named(text: &[u8]) -> Option<PolicyName>
+    ensures { λ r. ⌜ r ≡ policy-named (now (text .entry)) ⌝ }
+{
+    for policy in &POLICIES {
+        if text == policy_text(*policy) {
+            return Some(*policy);
+        }
+    }
+    None
+}
+
+impl Word {
+    fn text(self) -> &'static [u8]
+        ensures { λ r. ⌜ now r ≡ word-text self ⌝ }
+    {
+        match self {
+            Word::Window => b"window",
+            Word::Policy => b"policy",
+            Word::Drop => b"drop",
+            Word::Next => b"next",
+            Word::Which => b"which",
+            Word::Frame => b"frame",
+            Word::Add => b"add",
+            Word::Alter => b"alter",
+        }
+    }
+
+    pub fn named(text: &[u8]) -> Option<Word>
+        ensures { λ r. ⌜ r ≡ word-named (now (text .entry)) ⌝ }
+    {
+        for word in &WORDS {
+            if text == word.text() {
+                return Some(*word);
+            }
+        }
+        None
+    }
+
+    // The items that follow the word, in their order.
+    pub fn kinds(self) -> &'static [Kind]
+        ensures { λ r. ⌜ now r ≡ kinds self ⌝ }
+    {
+        match self {
+            Word::Window | Word::Drop | Word::Next => &[Kind::Byte],
+            Word::Policy => &[Kind::PolicyName],
+            Word::Which => &[],
+            Word::Frame => &[Kind::HalfWord, Kind::Byte],
+            Word::Add | Word::Alter => &[
+                Kind::Byte,
+                Kind::Byte,
+                Kind::Byte,
+                Kind::Byte,
+                Kind::Byte,
+                Kind::Byte,
+            ],
+        }
+    }
+}
+
+impl Kind {
+    // Whether the item is of this kind, be a number too large or not.
+    pub fn takes(self, text: &[u8]) -> bool
+        ensures { λ r. ⌜ r ≡ takes self (now (text .entry)) ⌝ }
+    {
+        match self {
+            Kind::Byte | Kind::HalfWord => is_number(text),
+            Kind::PolicyName => policy_named(text).is_some(),
+        }
+    }
+}
+
+// A part that begins with a digit is a number.
+fn is_number(text: &[u8]) -> bool
+    ensures { λ r. ⌜ r ≡ is-number (now (text .entry)) ⌝ }
+{
+    match text.first() {
+        Some(byte) => byte.is_ascii_digit(),
+        None => false,
+    }
+}

@@ -25,7 +25,8 @@ use Rattle.lines.specs.declared.sign.Sign.the-variants.{Letter, Digit}
 use Rattle.lines.specs.Signs.{sign-of, ends-part}
 use Rattle.lines.specs.Numbers.{value-after, value, needless, in-range}
 use Rattle.lines.specs.Parts.{Placed, placed, longer, parts}
-use Rattle.lines.specs.Forms.{named, is-number}
+use Rattle.lines.specs.Names.{named}
+use Rattle.lines.specs.Forms.{is-number}
 use Rattle.lines.specs.Grammar.{Only, IsWord, IsNumber, IsItem, closing, line-of, WellShaped}
 use Rattle.lines.proofs.Walks.{none≢some, some-same}
 

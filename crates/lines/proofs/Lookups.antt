@@ -11,19 +11,23 @@ use Rattle.std.proofs.shelf.Equals.{sameBytes-decides}
 use Rattle.std.proofs.shelf.Ways.{same-from-decides}
 use Rattle.std.proofs.shelf.Lists.{at-drop-more, at-drop-all}
 use Rattle.std.proofs.shelf.Tests.{cond-true, cond-false}
-use Rattle.lines.specs.Forms.{named}
+use Rattle.lines.specs.Names.{named}
 
-module _ {X : Type 0} (text : X → List ℕ) (t : List ℕ) (xs : List X) (i : ℕ) (d : X) (s : List ℕ) (found : Bool) (lt : i < length xs) (spelled : s ≡ text (getD xs i d)) (tells : Decides found (t ≡ s)) where
-  at-it : named text t (drop i xs) ≡ cond found (Some (getD xs i d)) (named text t (drop (i + 1) xs))
+module _ {X : Type 0} (text : X → List ℕ) (t : List ℕ) (xs : List X) (i : ℕ) (x : X) (found : Bool) (lt : i < length xs) (is : x ≡ getD xs i x) (tells : Decides found (t ≡ text x)) where
+  at-it : named text t (drop i xs) ≡ cond found (Some x) (named text t (drop (i + 1) xs))
   at-it =
-      at-drop-more (named text t) xs i d lt
-      ∙ ap (λ w. cond (sameBytes t w) (Some (getD xs i d)) (named text t (drop (i + 1) xs))) (sym spelled)
-      ∙ ap (λ b. cond b (Some (getD xs i d)) (named text t (drop (i + 1) xs))) (same-from-decides _ _ (sameBytes-decides t s) tells)
+      at-drop-more (named text t) xs i x lt
+      ∙ ap (λ y. cond (sameBytes t (text y)) (Some y) (named text t (drop (i + 1) xs))) (sym is)
+      ∙ ap (λ b. cond b (Some x) (named text t (drop (i + 1) xs))) (same-from-decides _ _ (sameBytes-decides t (text x)) tells)
 
   -- the name at i is the one, and is the answer
-  pub hit : found ≡ true → named text t (drop i xs) ≡ named text t xs → Some (getD xs i d) ≡ named text t xs
+  pub hit : found ≡ true → named text t (drop i xs) ≡ named text t xs → Some x ≡ named text t xs
   hit so before = sym (at-it ∙ cond-true found _ _ so) ∙ before
 
   -- it is not, and the search goes on
   pub miss : found ≡ false → named text t (drop i xs) ≡ named text t xs → named text t (drop (i + 1) xs) ≡ named text t xs
   miss so before = sym (at-it ∙ cond-false found _ _ so) ∙ before
+
+-- none is the one
+pub none-left : {X : Type 0} (text : X → List ℕ) (t : List ℕ) (xs : List X) (i : ℕ) → length xs ≤ i → named text t (drop i xs) ≡ named text t xs → None ≡ named text t xs
+none-left text t xs i le before = sym (at-drop-all (named text t) xs i le) ∙ before

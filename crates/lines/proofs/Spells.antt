@@ -95,11 +95,11 @@ short-needless [] h = refl
 short-needless (b ∷ []) h = refl
 short-needless (b ∷ c ∷ bs) h = ne-eqb b 48 (λ e. let z = h e in omega arith)
 
-letter-no-number : (t : List ℕ) → IsWord t → is-number t ≡ false
+pub letter-no-number : (t : List ℕ) → IsWord t → is-number t ≡ false
 letter-no-number [] is = refl
 letter-no-number (b ∷ bs) is = let h = is .1 .0 in grind (arith, tells)
 
-number-is : (t : List ℕ) → IsNumber t → is-number t ≡ true
+pub number-is : (t : List ℕ) → IsNumber t → is-number t ≡ true
 number-is [] is = absurd (omega (arith, is .0))
 number-is (b ∷ bs) is = let h = is .1 .0 in grind (arith, tells)
 

@@ -56,4 +56,4 @@ returns c =
     let fits = none-found bad-item found tt (c .in-Continue-check-items .ensures tt) in
     let gone : unless bad-item found (items-read word (left rest)) ≡ items-read word (left rest) = ap (λ o. unless bad-item o (items-read word (left rest))) fits in
     let told = after-word (need.at·returns c .In-Continue-word) in
-    reads (c .args .line .now) (c .read-items .result) (c .read-items .ensures ∙ sym (told ∙ gone))
+    reads (c .args .line .now) (c .read-items .result) (_∙_ {b = items-read (c .in-Continue-word .word) (left (c .word .last .self))} (c .read-items .ensures) (sym (told ∙ gone)))

@@ -1,9 +1,9 @@
 -- The laws of reading. Assumes nothing.
 use mathlib.Core.Path.{_≡_, refl, sym, ap, subst, _∙_}
-use mathlib.Core.Bool.{Bool, true, false, cond}
-use mathlib.Core.List.{List, [], _∷_, _++_}
-use mathlib.Core.Logic.{_⊎_, inl, inr}
-use Prim.Native.Nat.{ℕ, _+_, _-_, _^_, _<_, _≤_}
+use mathlib.Core.Bool.{true}
+use mathlib.Core.List.{List, [], _∷_}
+use mathlib.Core.Logic.{inl, inr}
+use Prim.Native.Nat.{ℕ, _+_, _-_, _<_}
 use native.Mathlib.Omega.{arith}
 use lib.ListN.{length, getD, drop}
 use Rattle.std.specs.Options.{isSome, valueOr}
@@ -47,14 +47,14 @@ use Rattle.lines.specs.declared.word.Kind.{Kind}
 use Rattle.lines.specs.declared.word.Kind.the-variants.{Byte, HalfWord, PolicyName as Name}
 use Rattle.lines.specs.Shapes.{misplaced}
 use Rattle.lines.specs.Numbers.{value}
-use Rattle.lines.specs.Parts.{Placed, placed, parts}
+use Rattle.lines.specs.Parts.{Placed, parts}
 use Rattle.lines.specs.Forms.{word-text, policy-text, policies, policy-named, words, word-named, kinds, is-number, takes, sound, misfit, unsound, front, behind, said, figures}
-use Rattle.lines.specs.Reading.{bad-sign, bad-item, bad-number, unless, word-read, items-read, parts-read, reading}
-use Rattle.lines.specs.Grammar.{Only, IsWord, IsNumber, IsItem, closing, line-of, WellShaped, FirstBad}
+use Rattle.lines.specs.Reading.{bad-sign, bad-item, bad-number, unless, items-read, parts-read, reading}
+use Rattle.lines.specs.Grammar.{IsWord, IsNumber, IsItem, line-of, WellShaped}
 use Rattle.lines.specs.Spelling.{word-of, figure-texts, item-texts, spell, FiguresFit, InRange, OfKind, OfKinds, FitsForm}
 use Rattle.lines.specs.Laws.{Reads}
 use Rattle.lines.proofs.Order.{word-known, word-unknown, parts-known, parts-unknown, by-parts, answer-stands}
-use Rattle.lines.proofs.Walks.{none≢some, some-same, well-shaped-good, comes, first-bad}
+use Rattle.lines.proofs.Walks.{none≢some, well-shaped-good, comes, first-bad}
 use Rattle.lines.proofs.Spells.{own, spread, parts-of, named-text, cond-none, letter-no-number, number-is, decimal-back, decimal-fits}
 
 err≢ok : (t : Told) (f : Form) → Err t ≡ Ok f → ⊥

@@ -6,7 +6,7 @@ use Prim.Native.Nat.{ℕ, _+_, _-_, _<_, _≤_}
 use native.Mathlib.Omega.{arith}
 use lib.ListN.{length, getD, take, drop}
 use Rattle.std.proofs.shelf.Lists.{at-drop-more, at-drop-all, take-more, getD-drop, length-drop}
-use Rattle.std.proofs.shelf.Tests.{cond-true, cond-false, cases-bool}
+use Rattle.std.proofs.shelf.Tests.{cond-true, cond-false}
 use Rattle.lines.specs.Signs.{sign-of, ends-part}
 use Rattle.lines.specs.Parts.{Placed, placed, longer, parts}
 

@@ -1,9 +1,9 @@
 -- The laws of reading. Assumes nothing.
 use mathlib.Core.Path.{_≡_, refl, sym, ap, subst, _∙_}
-use mathlib.Core.Bool.{Bool, true, false, cond}
-use mathlib.Core.List.{List, [], _∷_, _++_}
-use mathlib.Core.Logic.{_⊎_, inl, inr}
-use Prim.Native.Nat.{ℕ, _+_, _-_, _^_, _<_, _≤_}
+use mathlib.Core.Bool.{true}
+use mathlib.Core.List.{List, [], _∷_}
+use mathlib.Core.Logic.{inl, inr}
+use Prim.Native.Nat.{ℕ, _+_, _-_, _<_}
 use native.Mathlib.Omega.{arith}
 use lib.ListN.{length, getD, drop}
 use Rattle.std.specs.Options.{isSome, valueOr}
@@ -14,7 +14,7 @@ use Rattle.std.specs.declared.option.Option.the-variants.{Some, None}
 use Rattle.std.specs.declared.result.Result.{Result}
 use Rattle.std.specs.declared.result.Result.the-variants.{Ok, Err}
 use Rattle.std.proofs.shelf.Decimals.{value-decimal}
-use Rattle.std.proofs.shelf.Tests.{cond-true}
+use Rattle.std.proofs.shelf.Tests.{cond-true, both-ways}
 use Rattle.bus.specs.declared.refusal.Refusal.{Refusal}
 use Rattle.bus.specs.declared.refusal.Refusal.the-variants.{
   RowAbove31,
@@ -47,15 +47,15 @@ use Rattle.lines.specs.declared.word.Kind.{Kind}
 use Rattle.lines.specs.declared.word.Kind.the-variants.{Byte, HalfWord, PolicyName as Name}
 use Rattle.lines.specs.Shapes.{misplaced}
 use Rattle.lines.specs.Numbers.{value}
-use Rattle.lines.specs.Parts.{Placed, placed, parts}
-use Rattle.lines.specs.Forms.{word-text, policy-text, policies, policy-named, words, word-named, kinds, takes, sound, misfit, unsound, front, behind, said, figures}
-use Rattle.lines.specs.Reading.{bad-sign, bad-item, bad-number, unless, word-read, items-read, parts-read, reading}
-use Rattle.lines.specs.Grammar.{Only, IsWord, IsItem, closing, line-of, WellShaped, FirstBad}
-use Rattle.lines.specs.Spelling.{word-of, figure-texts, item-texts, spell, FiguresFit, InRange}
+use Rattle.lines.specs.Parts.{Placed, parts}
+use Rattle.lines.specs.Forms.{word-text, policy-text, policies, policy-named, words, word-named, kinds, is-number, takes, sound, misfit, unsound, front, behind, said, figures}
+use Rattle.lines.specs.Reading.{bad-sign, bad-item, bad-number, unless, items-read, parts-read, reading}
+use Rattle.lines.specs.Grammar.{IsWord, IsNumber, IsItem, line-of, WellShaped}
+use Rattle.lines.specs.Spelling.{word-of, figure-texts, item-texts, spell, FiguresFit, InRange, OfKind, OfKinds, FitsForm}
 use Rattle.lines.specs.Laws.{Reads}
 use Rattle.lines.proofs.Order.{word-known, word-unknown, parts-known, parts-unknown, by-parts, answer-stands}
-use Rattle.lines.proofs.Walks.{none≢some, some-same, well-shaped-good, comes, first-bad}
-use Rattle.lines.proofs.Spells.{own, spread, parts-of, named-text, cond-none, decimal-back, decimal-fits}
+use Rattle.lines.proofs.Walks.{none≢some, well-shaped-good, comes, first-bad}
+use Rattle.lines.proofs.Spells.{own, spread, parts-of, named-text, cond-none, letter-no-number, number-is, decimal-back, decimal-fits}
 
 err≢ok : (t : Told) (f : Form) → Err t ≡ Ok f → ⊥
 err≢ok t f e = let z : _≡_ {A = ℕ} 0 1 = cc in omega arith
@@ -334,6 +334,83 @@ shaped-else line none =
       | Some place ↦ λ e. absurd (none place (ap (λ o. unless bad-sign o (parts-read (length line - 1) (parts 1 (drop 1 line)))) e))
     ] refl
 
+of-kind-takes : (k : Kind) (t : List ℕ) → OfKind k t → IsItem t × (takes k t ≡ true)
+of-kind-takes Byte t h = (inr h, number-is t h)
+of-kind-takes HalfWord t h = (inr h, number-is t h)
+of-kind-takes Name t h =
+    let fits = policy-fits (h .0) in
+    subst (λ u. IsItem u × (takes Name u ≡ true)) (sym (h .1)) (fits .0, fits .1)
+
+takes-number : (t : List ℕ) → IsItem t → is-number t ≡ true → IsNumber t
+takes-number t (inl w) is = absurd (both-ways (is-number t) (letter-no-number t w) is)
+takes-number t (inr n) is = n
+
+takes-of-kind : (k : Kind) (t : List ℕ) → IsItem t → takes k t ≡ true → OfKind k t
+takes-of-kind Byte t is fits = takes-number t is fits
+takes-of-kind HalfWord t is fits = takes-number t is fits
+takes-of-kind Name t is fits =
+    elim (policy-named t) as (λ o. policy-named t ≡ o → isSome o ≡ true → (p : PolicyName) × (t ≡ policy-text p)) [
+      | None ↦ λ e no-name. absurd (let z : _≡_ {A = ℕ} 0 1 = cc in omega arith)
+      | Some p ↦ λ e some. (p, named-text policy-text t policies p e)
+    ] refl fits
+
+of-kinds-fit : (last : ℕ) (ks : List Kind) (ts : List (List ℕ)) (q : ℕ) → OfKinds ks ts → All IsItem ts × (misfit last ks (spread q ts) ≡ None)
+of-kinds-fit last [] [] q h = (tt, refl)
+of-kinds-fit last [] (t ∷ ts) q h = absurd h
+of-kinds-fit last (k ∷ ks) [] q h = absurd h
+of-kinds-fit last (k ∷ ks) (t ∷ ts) q h =
+    let here = of-kind-takes k t (h .0) in
+    let rest = of-kinds-fit last ks ts (q + length t + 1) (h .1) in
+    ((here .0, rest .0), cond-true (takes k t) _ _ (here .1) ∙ rest .1)
+
+fit-of-kinds : (last : ℕ) (ks : List Kind) (ts : List (List ℕ)) (q : ℕ) → All IsItem ts → misfit last ks (spread q ts) ≡ None → OfKinds ks ts
+fit-of-kinds last [] [] q all fit = tt
+fit-of-kinds last [] (t ∷ ts) q all fit = absurd (none≢some _ (sym fit))
+fit-of-kinds last (k ∷ ks) [] q all fit = absurd (none≢some _ (sym fit))
+fit-of-kinds last (k ∷ ks) (t ∷ ts) q all fit =
+    let f = cond-none (takes k t) (misfit last ks (spread (q + length t + 1) ts)) q fit in
+    (takes-of-kind k t (all .0) (f .0), fit-of-kinds last ks ts (q + length t + 1) (all .1) (f .1))
+
+-- the items of a line that fits are not declined
+no-item : (o : Option ℕ) (f : Form) (place : ℕ) → unless bad-number o (Ok f) ≡ Err (bad-item place) → ⊥
+no-item None f place e = let n = ap number-of e in omega arith
+no-item (Some q) f place e = let n = ap number-of e in omega arith
+
+fits-no-bad-item : (line : List ℕ) (place : ℕ) → FitsForm line → reading line ≡ Err (bad-item place) → ⊥
+fits-no-bad-item line place h e =
+    let word = h .word in
+    let w = word-text word in
+    let ts = h .items in
+    let q = 1 + length w + 1 in
+    let fit = of-kinds-fit (length (line-of w ts) - 1) (kinds word) ts q (h .of-kinds) in
+    let read = known w ts (word-is word .0) (fit .0) word (word-is word .1) ∙ ap (λ o. unless bad-item o (items-read word (spread q ts))) (fit .1) in
+    no-item (unsound (kinds word) (spread q ts)) (said word (spread q ts)) place (sym read ∙ ap reading (sym (h .whole)) ∙ e)
+
+-- a line whose numbers are told of fits
+number-after : (o : Option ℕ) (a : Result Form Told) (place : ℕ) → unless bad-item o a ≡ Err (bad-number place) → o ≡ None
+number-after None a place e = refl
+number-after (Some q) a place e = absurd (let n = ap number-of e in omega arith)
+
+bad-number-fits : (line : List ℕ) (place : ℕ) → reading line ≡ Err (bad-number place) → FitsForm line
+bad-number-fits line place e =
+    let sh = shaped-else line (λ p f. let n = ap number-of (sym f ∙ e) in omega arith) in
+    let w = sh .word in
+    let ts = sh .items in
+    let read = ap reading (sym (sh .whole)) ∙ e in
+    elim (word-named w) as (λ o. word-named w ≡ o → FitsForm line) [
+      | None ↦ λ none. absurd (let n = ap number-of (sym (unknown w ts (sh .is-word) (sh .are-items) none) ∙ read) in omega arith)
+      | Some word ↦ λ found.
+          let q = 1 + length w + 1 in
+          let last = length (line-of w ts) - 1 in
+          let fit = number-after (misfit last (kinds word) (spread q ts)) (items-read word (spread q ts)) place (sym (known w ts (sh .is-word) (sh .are-items) word found) ∙ read) in
+          record {
+            word = word;
+            items = ts;
+            of-kinds = fit-of-kinds last (kinds word) ts q (sh .are-items) fit;
+            whole = sh .whole ∙ ap (λ v. line-of v ts) (named-text word-text w words word found);
+          }
+    ] refl
+
 -- an answer that is the definition's keeps the laws
 pub reads : (line : List ℕ) (r : Result Form Refusal) → answered r ≡ reading line → Reads line r
 reads line r is =
@@ -341,6 +418,8 @@ reads line r is =
       value = is;
       bad-sign = λ place e. first-bad line place (bad-sign-found line place (sym is ∙ ap answered e));
       shaped = λ none. shaped-else line (λ place e. none place (answered-bad-sign r place (is ∙ e)));
+      bad-item = λ place e fits. fits-no-bad-item line place fits (sym is ∙ ap answered e);
+      bad-number = λ place e. bad-number-fits line place (sym is ∙ ap answered e);
       spelled = λ f e. spelled-back line f (sym is ∙ ap answered e);
       read-back = λ f h e. answered-ok r f (is ∙ ap reading (sym e) ∙ spelling-read f h);
     }

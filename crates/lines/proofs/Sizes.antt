@@ -1,6 +1,6 @@
 -- How a number grows digit by digit. Assumes nothing.
-use mathlib.Core.Path.{_≡_, refl, sym, ap, _∙_}
-use mathlib.Core.Bool.{true, false, cond, not, _&&_}
+use mathlib.Core.Path.{_≡_, sym, _∙_}
+use mathlib.Core.Bool.{true, false}
 use mathlib.Core.List.{List, [], _∷_}
 use Prim.Native.Nat.{ℕ, _+_, _-_, _*_, _<_, _≤_}
 use native.Mathlib.Omega.{arith}
@@ -9,7 +9,7 @@ use lib.ListN.{length, getD, drop}
 use Rattle.std.specs.declared.option.Option.the-variants.{Some, None}
 use Rattle.std.proofs.shelf.Lists.{at-drop-more, at-drop-all}
 use Rattle.std.proofs.shelf.Tests.{lt-leb, le-leb}
-use Rattle.lines.specs.Numbers.{value-after, value, needless, in-range, number-read}
+use Rattle.lines.specs.Numbers.{value-after, value, needless, number-read}
 
 -- a number grows with each digit
 pub value-after-ge : (n : ℕ) (bs : List ℕ) → n ≤ value-after n bs

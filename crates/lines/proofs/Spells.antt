@@ -1,14 +1,12 @@
 -- A line that is read is the spelling of what it says. Assumes nothing.
-use mathlib.Core.Path.{_≡_, refl, sym, ap, subst, _∙_}
-use mathlib.Core.Bool.{Bool, true, false, cond, not, _&&_}
-use mathlib.Core.List.{List, [], _∷_, _++_, map}
-use mathlib.Core.Logic.{_⊎_, inl, inr}
-use Prim.Native.Nat.{ℕ, zero, suc, _+_, _-_, _*_, _^_, _<_, _≤_}
+use mathlib.Core.Path.{_≡_, refl, sym, ap, _∙_}
+use mathlib.Core.Bool.{Bool, true, false, cond, not}
+use mathlib.Core.List.{List, [], _∷_, _++_}
+use mathlib.Core.Logic.{inl, inr}
+use Prim.Native.Nat.{ℕ, suc, _+_, _-_, _^_, _<_, _≤_}
 use native.Mathlib.Omega.{arith}
-use native.Mathlib.Nat.{add-assoc}
-use lib.Dec.{leb, eqb}
-use lib.ListN.{length, getD, drop}
-use borrow.Author.Needs.{needs}
+use lib.Dec.{leb}
+use lib.ListN.{length, getD}
 use Rattle.std.specs.Text.{In}
 use Rattle.std.specs.Written.{decimal}
 use Rattle.std.specs.shelf.Lists.{All}
@@ -25,8 +23,9 @@ use Rattle.lines.specs.declared.sign.Sign.the-variants.{Letter, Digit}
 use Rattle.lines.specs.Signs.{sign-of, ends-part}
 use Rattle.lines.specs.Numbers.{value-after, value, needless, in-range}
 use Rattle.lines.specs.Parts.{Placed, placed, longer, parts}
-use Rattle.lines.specs.Forms.{named, is-number}
-use Rattle.lines.specs.Grammar.{Only, IsWord, IsNumber, IsItem, closing, line-of, WellShaped}
+use Rattle.lines.specs.Names.{named}
+use Rattle.lines.specs.Forms.{is-number}
+use Rattle.lines.specs.Grammar.{Only, IsWord, IsNumber, IsItem, closing}
 use Rattle.lines.proofs.Walks.{none≢some, some-same}
 
 -- the shelf's lemmas on decimals, for our digits
@@ -94,11 +93,11 @@ short-needless [] h = refl
 short-needless (b ∷ []) h = refl
 short-needless (b ∷ c ∷ bs) h = ne-eqb b 48 (λ e. let z = h e in omega arith)
 
-letter-no-number : (t : List ℕ) → IsWord t → is-number t ≡ false
+pub letter-no-number : (t : List ℕ) → IsWord t → is-number t ≡ false
 letter-no-number [] is = refl
 letter-no-number (b ∷ bs) is = let h = is .1 .0 in grind (arith, tells)
 
-number-is : (t : List ℕ) → IsNumber t → is-number t ≡ true
+pub number-is : (t : List ℕ) → IsNumber t → is-number t ≡ true
 number-is [] is = absurd (omega (arith, is .0))
 number-is (b ∷ bs) is = let h = is .1 .0 in grind (arith, tells)
 

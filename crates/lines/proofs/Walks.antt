@@ -2,12 +2,11 @@
 use mathlib.Core.Path.{_≡_, refl, sym, ap, subst, _∙_}
 use mathlib.Core.Bool.{true, false, cond}
 use mathlib.Core.List.{List, [], _∷_, _++_, append-assoc}
-use mathlib.Core.Logic.{_⊎_, inl, inr}
-use Prim.Native.Nat.{ℕ, zero, suc, _+_, _<_, _≤_}
+use mathlib.Core.Logic.{inl, inr}
+use Prim.Native.Nat.{ℕ, suc, _+_, _<_, _≤_}
 use native.Mathlib.Omega.{arith}
-use lib.ListN.{length, getD, take, drop}
+use lib.ListN.{length, getD, take}
 use Rattle.std.specs.shelf.Lists.{All}
-use Rattle.std.specs.declared.option.Option.{Option}
 use Rattle.std.specs.declared.option.Option.the-variants.{Some, None}
 use Rattle.std.proofs.shelf.Lists.{take-more}
 use Rattle.std.proofs.shelf.Ways.{tells}
@@ -17,7 +16,7 @@ use Rattle.lines.specs.declared.shape.Stage.{Stage}
 use Rattle.lines.specs.declared.shape.Stage.the-variants.{Opening, WordDue, InWord, ItemDue, InNumber, Closed}
 use Rattle.lines.specs.Signs.{sign-of}
 use Rattle.lines.specs.Shapes.{step, closed, misplaced}
-use Rattle.lines.specs.Grammar.{Only, IsWord, IsNumber, IsItem, closing, line-of, WellShaped, FirstBad}
+use Rattle.lines.specs.Grammar.{Only, IsWord, IsItem, closing, WellShaped, FirstBad}
 use Rattle.lines.proofs.Scan.{onward}
 
 -- no fault from this stage on, wherever it begins

@@ -5,7 +5,6 @@ use Prim.Native.Nat.{ℕ}
 use lib.Dec.{leb}
 use lib.Chars.{codes}
 use Rattle.std.specs.Options.{isSome, valueOr}
-use Rattle.std.specs.shelf.Text.{sameBytes}
 use Rattle.std.specs.declared.option.Option.{Option}
 use Rattle.std.specs.declared.option.Option.the-variants.{Some, None}
 use Rattle.lines.specs.declared.form.PolicyName.{PolicyName}
@@ -17,6 +16,7 @@ use Rattle.lines.specs.declared.word.Word.{Word}
 use Rattle.lines.specs.declared.word.Word.the-variants.{Window, Policy, Drop, Next, Which, Frame, Add, Alter}
 use Rattle.lines.specs.declared.word.Kind.{Kind}
 use Rattle.lines.specs.declared.word.Kind.the-variants as kind
+use Rattle.lines.specs.Names.{named}
 use Rattle.lines.specs.Numbers.{value, in-range}
 use Rattle.lines.specs.Parts.{Placed, placed}
 
@@ -41,11 +41,6 @@ words = Window ∷ Policy ∷ Drop ∷ Next ∷ Which ∷ Frame ∷ Add ∷ Alte
 
 abbrev pub policies : List PolicyName
 policies = RateMonotonic ∷ DeadlineMonotonic ∷ Priority ∷ EarliestDeadline ∷ []
-
--- the first of the values xs whose text is t
-abbrev pub named : {X : Type 0} → (X → List ℕ) → List ℕ → List X → Option X
-named text t [] = None
-named text t (x ∷ xs) = cond (sameBytes t (text x)) (Some x) (named text t xs)
 
 abbrev pub word-named : List ℕ → Option Word
 word-named t = named word-text t words

@@ -2,6 +2,7 @@ pub mod Signs
 pub mod Shapes
 pub mod Parts
 pub mod Numbers
+pub mod Names
 pub mod Forms
 pub mod Reading
 pub mod Grammar

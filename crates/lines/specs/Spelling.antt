@@ -1,14 +1,18 @@
--- How each form is written. Assumes nothing.
+-- How each form is written, and which lines fit a form. Assumes nothing.
+use mathlib.Core.Path.{_≡_}
 use mathlib.Core.List.{List, [], _∷_}
-use Prim.Native.Nat.{ℕ, _<_, _^_}
+use Prim.Native.Nat.{ℕ, _<_}
 use Rattle.std.specs.Written.{decimal}
 use Rattle.lines.specs.declared.form.Figures.{Figures}
 use Rattle.lines.specs.declared.form.Form.{Form}
 use Rattle.lines.specs.declared.form.Form.the-variants.{Window, Policy, Drop, Next, Which, Frame, Add, Alter}
+use Rattle.lines.specs.declared.form.PolicyName.{PolicyName}
+use Rattle.lines.specs.declared.word.Kind.{Kind}
+use Rattle.lines.specs.declared.word.Kind.the-variants as kind
 use Rattle.lines.specs.declared.word.Word.{Word}
 use Rattle.lines.specs.declared.word.Word.the-variants as word
-use Rattle.lines.specs.Forms.{word-text, policy-text}
-use Rattle.lines.specs.Grammar.{line-of}
+use Rattle.lines.specs.Forms.{word-text, policy-text, kinds}
+use Rattle.lines.specs.Grammar.{IsNumber, line-of}
 
 abbrev pub word-of : Form → Word
 word-of (Window n) = word.Window
@@ -51,3 +55,22 @@ InRange Which = Unit {0}
 InRange (Frame c d) = (c < 65536) × (d < 256)
 InRange (Add row f) = (row < 256) × FiguresFit f
 InRange (Alter row f) = (row < 256) × FiguresFit f
+
+-- an item of each kind: any number, or the name of a policy
+abbrev pub OfKind : Kind → List ℕ → Type 0
+OfKind kind.Byte t = IsNumber t
+OfKind kind.HalfWord t = IsNumber t
+OfKind kind.PolicyName t = (p : PolicyName) × (t ≡ policy-text p)
+
+abbrev pub OfKinds : List Kind → List (List ℕ) → Type 0
+OfKinds [] [] = Unit {0}
+OfKinds [] (t ∷ ts) = ⊥
+OfKinds (k ∷ ks) [] = ⊥
+OfKinds (k ∷ ks) (t ∷ ts) = OfKind k t × OfKinds ks ts
+
+-- a form's word and items of its kinds, whatever the numbers are
+pub record FitsForm (line : List ℕ) : Type 0 where
+  pub word : Word
+  pub items : List (List ℕ)
+  pub of-kinds : OfKinds (kinds word) items
+  pub whole : line ≡ line-of (word-text word) items

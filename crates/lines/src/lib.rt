@@ -2,6 +2,7 @@
 
 pub mod fault;
 pub mod form;
+mod name;
 mod number;
 mod part;
 pub mod reader;

@@ -57,7 +57,7 @@ impl Rest<'_> {
         ensures after { λ _. ⌜ left (now (self .exit)) ≡ behind (left (now (self .entry))) ⌝ }
         ensures length { λ _. ⌜ length (left (now (self .exit))) + 1 ≡ length (left (now (self .entry))) ⌝ }
     {
-        Ok(self.number(255)? as u8)
+        Ok(self.number(u16::from(u8::MAX))? as u8)
     }
 
     // The policy that the next item names.
@@ -122,7 +122,7 @@ fn read_items(word: Word, mut rest: Rest) -> Result<Form, Refusal>
         Word::Next => Form::Next(rest.byte()?),
         Word::Which => Form::Which,
         Word::Frame => Form::Frame {
-            cycle_bits: rest.number(65_535)?,
+            cycle_bits: rest.number(u16::MAX)?,
             data_bytes: rest.byte()?,
         },
         Word::Add => Form::Add {

@@ -2,6 +2,8 @@
 ghost use mathlib.Core.Path.{_≡_};
 ghost use Rattle.lines.specs.Forms.{word-text, policy-text, word-named, policy-named, kinds, takes, is-number};
 use crate::form::PolicyName;
+use crate::name::Name;
+use crate::name::find;
 
 #[derive(Clone, Copy)]
 pub enum Word {
@@ -43,32 +45,23 @@ const POLICIES: [PolicyName; 4] = [
     PolicyName::EarliestDeadline,
 ];
 
-fn policy_text(policy: PolicyName) -> &'static [u8]
-    ensures { λ r. ⌜ now r ≡ policy-text policy ⌝ }
-{
-    match policy {
-        PolicyName::RateMonotonic => b"rm",
-        PolicyName::DeadlineMonotonic => b"dm",
-        PolicyName::Priority => b"pr",
-        PolicyName::EarliestDeadline => b"edf",
-    }
-}
+impl Name for PolicyName as PolicyByName {
+    ghost written = { policy-text };
 
-pub fn policy_named(text: &[u8]) -> Option<PolicyName>
-    ensures { λ r. ⌜ r ≡ policy-named (now (text .entry)) ⌝ }
-{
-    for policy in &POLICIES {
-        if text == policy_text(*policy) {
-            return Some(*policy);
+    fn text(self) -> &'static [u8] {
+        match self {
+            PolicyName::RateMonotonic => b"rm",
+            PolicyName::DeadlineMonotonic => b"dm",
+            PolicyName::Priority => b"pr",
+            PolicyName::EarliestDeadline => b"edf",
         }
     }
-    None
 }
 
-impl Word {
-    fn text(self) -> &'static [u8]
-        ensures { λ r. ⌜ now r ≡ word-text self ⌝ }
-    {
+impl Name for Word as WordByName {
+    ghost written = { word-text };
+
+    fn text(self) -> &'static [u8] {
         match self {
             Word::Window => b"window",
             Word::Policy => b"policy",
@@ -80,16 +73,19 @@ impl Word {
             Word::Alter => b"alter",
         }
     }
+}
 
+pub fn policy_named(text: &[u8]) -> Option<PolicyName>
+    ensures { λ r. ⌜ r ≡ policy-named (now (text .entry)) ⌝ }
+{
+    find(&POLICIES, text)
+}
+
+impl Word {
     pub fn named(text: &[u8]) -> Option<Word>
         ensures { λ r. ⌜ r ≡ word-named (now (text .entry)) ⌝ }
     {
-        for word in &WORDS {
-            if text == word.text() {
-                return Some(*word);
-            }
-        }
-        None
+        find(&WORDS, text)
     }
 
     // The items that follow the word, in their order.
@@ -114,7 +110,7 @@ impl Word {
 }
 
 impl Kind {
-    // Whether the item is of this kind, be a number too large or not.
+    // Whether the item is of this kind. How large a number is plays no part.
     pub fn takes(self, text: &[u8]) -> bool
         ensures { λ r. ⌜ r ≡ takes self (now (text .entry)) ⌝ }
     {

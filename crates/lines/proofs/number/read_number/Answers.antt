@@ -1,8 +1,7 @@
-use mathlib.Core.Path.{_≡_, sym, ap, _∙_}
+use mathlib.Core.Path.{sym}
 use Prim.Native.Nat.{_+_, _*_}
 use native.Mathlib.Omega.{arith}
-use Rattle.lines.specs.Numbers.{value-after, value}
-use lib.ListN.{drop, getD}
+use Rattle.lines.specs.Numbers.{value}
 use Rattle.lines.proofs.Sizes.{digit-more, past, whole}
 use Rattle.lines.proofs.number.read_number.Needs as need
 

@@ -52,7 +52,8 @@ pub returns : need.returns
 returns c =
     let rest = c .word .last .self in
     let word = c .in-Continue-word .word in
-    let fits = none-found bad-item (misfit (last-place rest) (kinds word) (left rest)) tt (c .in-Continue-check-items .ensures tt) in
-    reads (c .args .line .now) (c .read-items .result) (c .read-items .ensures
-    ∙ sym (ap (λ o. unless bad-item o (items-read word (left rest))) fits)
-    ∙ sym (after-word (need.at·returns c .In-Continue-word)))
+    let found = misfit (last-place rest) (kinds word) (left rest) in
+    let fits = none-found bad-item found tt (c .in-Continue-check-items .ensures tt) in
+    let gone : unless bad-item found (items-read word (left rest)) ≡ items-read word (left rest) = ap (λ o. unless bad-item o (items-read word (left rest))) fits in
+    let told = after-word (need.at·returns c .In-Continue-word) in
+    reads (c .args .line .now) (c .read-items .result) (_∙_ {b = items-read (c .in-Continue-word .word) (left (c .word .last .self))} (c .read-items .ensures) (sym (told ∙ gone)))

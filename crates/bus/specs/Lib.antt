@@ -1,1 +1,4 @@
+pub mod Frames
 pub mod Refusals
+pub mod Rows
+pub mod Triggers

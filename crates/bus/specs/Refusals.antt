@@ -7,8 +7,22 @@ use Rattle.bus.specs.declared.refusal.Field.{Field}
 use Rattle.bus.specs.declared.refusal.Field.the-variants.{Duration, Period, Deadline, Window}
 use Rattle.bus.specs.declared.refusal.Refusal.{Refusal}
 use Rattle.bus.specs.declared.refusal.Refusal.the-variants.{
-  RowAbove31, RowUsed, RowEmpty, OutOfRange, AboveWindow, RoundTooLong, Late, Unsettled, PlanLength,
-  OffsetTooHigh, TooManyDataBytes, FrameTooLong, BadSign, BadItem, BadNumber, BufferTooShort
+  RowAbove31,
+  RowUsed,
+  RowEmpty,
+  OutOfRange,
+  AboveWindow,
+  RoundTooLong,
+  Late,
+  Unsettled,
+  PlanLength,
+  OffsetTooHigh,
+  TooManyDataBytes,
+  FrameTooLong,
+  BadSign,
+  BadItem,
+  BadNumber,
+  BufferTooShort,
 }
 
 -- a refusal as it is told outside
@@ -22,7 +36,7 @@ field-number Period = 2
 field-number Deadline = 3
 field-number Window = 4
 
-abbrev numbered : ℕ → List ℕ → Told
+abbrev pub numbered : ℕ → List ℕ → Told
 numbered n vs = record { number = n; values = vs }
 
 abbrev pub told : Refusal → Told

@@ -1,0 +1,4 @@
+pub mod Durations
+pub mod Rounding
+pub mod Triggers
+pub mod Words

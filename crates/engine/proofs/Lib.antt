@@ -1,1 +1,4 @@
+pub mod Calm
 pub mod Lighter
+pub mod Tests
+pub mod Turns

@@ -37,7 +37,7 @@ same-deadline a b h = ap (λ f. f .deadline) (h .figures)
 same-duration : (a b : Row) → Same-or-done a b → a .figures .duration ≡ b .figures .duration
 same-duration a b h = ap (λ f. f .duration) (h .figures)
 
-released-figures : (row : Row) → released row .figures ≡ row .figures
+pub released-figures : (row : Row) → released row .figures ≡ row .figures
 released-figures row = elim (eqb (row .wait) 0) as (λ v. (cond v (record { figures = row .figures; wait = row .figures .period; left = row .figures .deadline }) row) .figures ≡ row .figures) [ true ↦ refl | false ↦ refl ]
 
 released-same : (a b : Row) → Same-or-done a b → Same-or-done (released a) (released b)

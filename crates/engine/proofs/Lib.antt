@@ -1,4 +1,5 @@
 pub mod Calm
 pub mod Lighter
+pub mod Rehearsed
 pub mod Tests
 pub mod Turns

@@ -60,7 +60,7 @@ wait-turns p (suc m) w h =
     ap (λ n. wait-after p n w) more ∙ wait-add p p (m * p) w ∙ ap (wait-after p (m * p)) (wait-turn p w h) ∙ wait-turns p m w h
 
 -- once it is below the period it stays there, and it gets there within its own length
-wait-stays : (p k w : ℕ) → w < p → wait-after p k w < p
+pub wait-stays : (p k w : ℕ) → w < p → wait-after p k w < p
 unfolding wait-after
 wait-stays p zero w h = h
 wait-stays p (suc k) w h = wait-stays p k (next-wait p w) (grind (arith, tells))

@@ -3,3 +3,4 @@ pub mod Lighter
 pub mod Rehearsed
 pub mod Tests
 pub mod Turns
+pub mod WindowSum

@@ -1,5 +1,7 @@
 pub mod Calm
+pub mod Firsts
 pub mod Lighter
+pub mod Multiples
 pub mod Rehearsed
 pub mod Tests
 pub mod Turns

@@ -1,4 +1,5 @@
 pub mod Comparison
 pub mod Cycle
+pub mod Held
 pub mod Rehearsal
 pub mod Rows

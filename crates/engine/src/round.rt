@@ -1,0 +1,52 @@
+// What a rehearsal takes from the rows: the round.
+ghost use mathlib.Core.Path.{_≡_};
+ghost use mathlib.Core.Bool.{_&&_, _||_};
+ghost use Prim.Native.Nat.{ℕ, _<_, _%_};
+ghost use lib.Dec.{eqb};
+ghost use Rattle.engine.specs.Rehearsal.{every, first-from, divided-by, round};
+ghost use Rattle.engine.specs.Held.{slots};
+use crate::row::Row;
+use bus::rows::ROWS;
+
+// The longest round that a rehearsal takes on.
+pub const MOST_CYCLES_IN_ROUND: u16 = 5_040;
+
+// The least common multiple of two numbers; none where it is above the limit, or where one of them is 0.
+fn common_multiple(a: u16, b: u16) -> Option<u16>
+    ensures { λ r. ⌜ r ≡ first-from 5040 1 (λ m. eqb (m % a) 0 && eqb (m % b) 0) ⌝ }
+{
+    if a == 0 || b == 0 {
+        return None;
+    }
+    let step = a.max(b) as u32;
+    let other = a.min(b) as u32;
+    let mut multiple = step;
+    while multiple <= MOST_CYCLES_IN_ROUND as u32 {
+        if multiple % other == 0 {
+            return Some(multiple as u16);
+        }
+        multiple += step;
+    }
+    None
+}
+
+// The row's period; for an empty row 1, which divides every number.
+fn period_of(slot: Option<Row>) -> u16
+    ensures { λ r. ⌜ ((m : ℕ) → divided-by slot m ≡ eqb (m % r) 0) ⌝ }
+{
+    match slot {
+        Some(row) => row.figures.period as u16,
+        None => 1,
+    }
+}
+
+// The round: the least number of cycles that every used row's period divides; none where it is above the limit.
+pub fn round_of(rows: &[Option<Row>; ROWS]) -> Option<u16>
+    ensures { λ r. ⌜ r ≡ round 5040 32 (slots (now (rows .entry))) ⌝ }
+{
+    let mut cycles = 1;
+    for r in 0..ROWS {
+        cycles = common_multiple(cycles, period_of(rows[r]))?;
+    }
+    Some(cycles)
+}

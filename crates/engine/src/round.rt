@@ -1,12 +1,13 @@
-// What a rehearsal takes from the rows: the round.
+// What a rehearsal takes from the rows: the round and the lead-in.
 ghost use mathlib.Core.Path.{_≡_};
 ghost use mathlib.Core.Bool.{_&&_, _||_};
 ghost use Prim.Native.Nat.{ℕ, _<_, _%_};
 ghost use lib.Dec.{eqb};
-ghost use Rattle.engine.specs.Rehearsal.{every, first-from, divided-by, round};
+ghost use Rattle.engine.specs.Rehearsal.{every, first-from, divided-by, round, wait-of, lead-in};
 ghost use Rattle.engine.specs.Held.{slots};
 use crate::row::Row;
 use bus::rows::ROWS;
+use orders::instance::Cycles;
 
 // The longest round that a rehearsal takes on.
 pub const MOST_CYCLES_IN_ROUND: u16 = 5_040;
@@ -49,4 +50,24 @@ pub fn round_of(rows: &[Option<Row>; ROWS]) -> Option<u16>
         cycles = common_multiple(cycles, period_of(rows[r]))?;
     }
     Some(cycles)
+}
+
+fn wait_of(slot: Option<Row>) -> Cycles
+    ensures { λ r. ⌜ r ≡ wait-of slot ⌝ }
+{
+    match slot {
+        Some(row) => row.wait,
+        None => 0,
+    }
+}
+
+// The lead-in: the greatest wait, after which every wait is below its period.
+pub fn lead_in(rows: &[Option<Row>; ROWS]) -> Cycles
+    ensures { λ r. ⌜ r ≡ lead-in 32 (slots (now (rows .entry))) ⌝ }
+{
+    let mut greatest: Cycles = 0;
+    for r in 0..ROWS {
+        greatest = greatest.max(wait_of(rows[r]));
+    }
+    greatest
 }

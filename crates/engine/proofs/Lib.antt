@@ -5,3 +5,4 @@ pub mod Multiples
 pub mod Rehearsed
 pub mod Tests
 pub mod Turns
+pub mod WaitingRows

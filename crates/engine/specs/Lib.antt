@@ -3,3 +3,4 @@ pub mod Cycle
 pub mod Held
 pub mod Rehearsal
 pub mod Rows
+pub mod Waiting

@@ -1,12 +1,17 @@
-// What a rehearsal takes from the rows: the round and the lead-in.
+// What a rehearsal takes from the rows: the round, the lead-in, and the rows that wait.
 ghost use mathlib.Core.Path.{_≡_};
-ghost use mathlib.Core.Bool.{_&&_, _||_};
+ghost use mathlib.Core.Bool.{not, _&&_, _||_};
 ghost use Prim.Native.Nat.{ℕ, _<_, _%_};
 ghost use lib.Dec.{eqb};
-ghost use Rattle.engine.specs.Rehearsal.{every, first-from, divided-by, round, wait-of, lead-in};
+ghost use Rattle.bus.specs.Rows.{member};
+ghost use Rattle.engine.specs.Rows.{waits};
+ghost use Rattle.engine.specs.Cycle.{Slots, used-and};
+ghost use Rattle.engine.specs.Rehearsal.{every, first-from, divided-by, round, wait-of, lead-in, settled};
 ghost use Rattle.engine.specs.Held.{slots};
+ghost use Rattle.engine.specs.Waiting.{waits-at, waiting-word};
 use crate::row::Row;
 use bus::rows::ROWS;
+use bus::rows::RowSet;
 use orders::instance::Cycles;
 
 // The longest round that a rehearsal takes on.
@@ -61,6 +66,15 @@ fn wait_of(slot: Option<Row>) -> Cycles
     }
 }
 
+fn row_waits(slot: Option<Row>) -> bool
+    ensures { λ r. ⌜ r ≡ used-and waits slot ⌝ }
+{
+    match slot {
+        Some(row) => row.waits(),
+        None => false,
+    }
+}
+
 // The lead-in: the greatest wait, after which every wait is below its period.
 pub fn lead_in(rows: &[Option<Row>; ROWS]) -> Cycles
     ensures { λ r. ⌜ r ≡ lead-in 32 (slots (now (rows .entry))) ⌝ }
@@ -70,4 +84,26 @@ pub fn lead_in(rows: &[Option<Row>; ROWS]) -> Cycles
         greatest = greatest.max(wait_of(rows[r]));
     }
     greatest
+}
+
+// The rows that wait.
+pub fn waiting(rows: &[Option<Row>; ROWS]) -> RowSet
+    ensures value { λ r. ⌜ r .word ≡ waiting-word 32 (slots (now (rows .entry))) ⌝ }
+    ensures each { λ r. ⌜ ((k : ℕ) → k < 32 → member (r .word) k ≡ waits-at (slots (now (rows .entry))) k) ⌝ }
+{
+    let mut word = 0;
+    for r in 0..ROWS {
+        if row_waits(rows[r]) {
+            word |= 1 << r;
+        }
+    }
+    RowSet { word }
+}
+
+// Whether every row that waits at the end also waited at the start.
+pub fn has_settled(start: RowSet, end: RowSet) -> bool
+    ensures value { λ r. ⌜ r ≡ every 32 (λ k. not (member (end .word) k) || member (start .word) k) ⌝ }
+    ensures tables { λ r. ⌜ ((a b : Slots) → start .word ≡ waiting-word 32 a → end .word ≡ waiting-word 32 b → r ≡ settled 32 a b) ⌝ }
+{
+    start.word & end.word == end.word
 }

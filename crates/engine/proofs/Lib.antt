@@ -1,6 +1,9 @@
 pub mod Calm
+pub mod Firsts
 pub mod Lighter
+pub mod Multiples
 pub mod Rehearsed
 pub mod Tests
 pub mod Turns
+pub mod WaitingRows
 pub mod WindowSum

@@ -1,3 +1,4 @@
 // The table of periodic messages: what one elementary cycle does to it, and the rehearsal of a change.
+pub mod round;
 pub mod row;
 pub mod verdict;

@@ -1,1 +1,3 @@
-pub mod Lighter
+pub mod Loads
+pub mod Passes
+pub mod Waiters

@@ -1,3 +1,4 @@
 pub mod Comparison
 pub mod Cycle
+pub mod Held
 pub mod Rows

@@ -1,2 +1,3 @@
 // The table of periodic messages: what one elementary cycle does to it, and the rehearsal of a change.
+pub mod cycle;
 pub mod row;

@@ -1,0 +1,72 @@
+-- The waiting instances of the first rows. Assumes nothing.
+use mathlib.Core.Path.{_≡_, refl, sym, ap, subst, _∙_}
+use mathlib.Core.Bool.{Bool, true, false, cond}
+use mathlib.Core.List.{List, [], _∷_, _++_, append-nil}
+use mathlib.Core.Logic.{inl, inr}
+use Prim.Native.Nat.{ℕ, zero, suc, _+_, _-_, _<_, _≤_}
+use native.Mathlib.Numerals.{add-one}
+use native.Mathlib.Omega.{arith}
+use lib.ListN.{length, getD}
+use Rattle.std.specs.declared.option.Option.{Option}
+use Rattle.std.specs.declared.option.Option.the-variants.{Some, None}
+use Rattle.std.proofs.shelf.Lists.{length-append, getD-append-left, getD-append-right}
+use Rattle.std.proofs.shelf.Tests.{cases-lt}
+use Rattle.orders.specs.declared.instance.Instance.{Instance}
+use Rattle.engine.specs.declared.row.Row.{Row}
+use Rattle.engine.specs.Rows.{instance-of, waits}
+use Rattle.engine.specs.Cycle.{Slots, waiter, waiters}
+use Rattle.engine.specs.Held.{no-instance}
+
+pub waiters-none : (t : Slots) → waiters 0 t ≡ []
+unfolding waiters
+waiters-none t = refl
+
+pub waiters-more : (n : ℕ) (t : Slots) → waiters (n + 1) t ≡ waiters n t ++ waiter n (t n)
+unfolding waiters
+waiters-more n t = ap (λ m. waiters m t) (add-one n)
+
+-- a row adds at most one, with its own number
+waiter-short : (n : ℕ) (o : Option Row) → length (waiter n o) ≤ 1
+waiter-short n None = omega arith
+waiter-short n (Some row) = elim (waits row) as (λ b. length (cond b (instance-of n row ∷ []) []) ≤ 1) [ true ↦ omega arith | false ↦ omega arith ]
+
+waiter-row : (n : ℕ) (o : Option Row) (k : ℕ) → k < length (waiter n o) → getD (waiter n o) k no-instance .row ≡ n
+waiter-row n None k h = absurd (omega arith)
+waiter-row n (Some row) k h = go (waits row) k h
+  where
+    go : (b : Bool) (k : ℕ) → k < length (cond b (instance-of n row ∷ []) []) → getD (cond b (instance-of n row ∷ []) []) k no-instance .row ≡ n
+    go true zero h = refl
+    go true (suc k) h = absurd (omega arith)
+    go false k h = absurd (omega arith)
+
+pub length-waiters : (n : ℕ) (t : Slots) → length (waiters n t) ≤ n
+unfolding waiters
+length-waiters zero t = omega arith
+length-waiters (suc n) t = omega (arith, length-append (waiters n t) (waiter n (t n)), length-waiters n t, waiter-short n (t n))
+
+-- the rows of the first n are below n
+pub row-below : (n : ℕ) (t : Slots) (k : ℕ) → k < length (waiters n t) → getD (waiters n t) k no-instance .row < n
+unfolding waiters
+row-below zero t k h = absurd (omega arith)
+row-below (suc n) t k h =
+    elim (cases-lt k (length (waiters n t))) [
+      | inl below ↦ omega (arith, ap (λ i. i .row) (getD-append-left (waiters n t) (waiter n (t n)) no-instance k below), row-below n t k below)
+      | inr past ↦
+        let place : k - length (waiters n t) < length (waiter n (t n)) = omega (arith, length-append (waiters n t) (waiter n (t n))) in
+        omega (arith, ap (λ i. i .row) (getD-append-right (waiters n t) (waiter n (t n)) (length (waiters n t)) k no-instance refl past), waiter-row n (t n) (k - length (waiters n t)) place)
+    ]
+
+-- what row r adds
+module _ (r : ℕ) (t : Slots) where
+  pub waiters-empty : t r ≡ None → waiters (r + 1) t ≡ waiters r t
+  waiters-empty empty = waiters-more r t ∙ ap (λ o. waiters r t ++ waiter r o) empty ∙ append-nil (waiters r t)
+
+  module _ (row : Row) (used : t r ≡ Some row) where
+    waiters-used : (b : Bool) → waits row ≡ b → waiters (r + 1) t ≡ waiters r t ++ cond b (instance-of r row ∷ []) []
+    waiters-used b is = waiters-more r t ∙ ap (λ o. waiters r t ++ waiter r o) used ∙ ap (λ b. waiters r t ++ cond b (instance-of r row ∷ []) []) is
+
+    pub waiters-push : waits row ≡ true → waiters (r + 1) t ≡ waiters r t ++ instance-of r row ∷ []
+    waiters-push is = waiters-used true is
+
+    pub waiters-stay : waits row ≡ false → waiters (r + 1) t ≡ waiters r t
+    waiters-stay is = waiters-used false is ∙ append-nil (waiters r t)

@@ -1,0 +1,84 @@
+// One elementary cycle of the table.
+ghost use mathlib.Core.Path.{_≡_};
+ghost use Prim.Native.Nat.{ℕ, _+_, _*_, _<_, _≤_};
+ghost use lib.ListN.{getD, take};
+ghost use Rattle.engine.specs.Cycle.{load, release, waiters};
+ghost use Rattle.engine.specs.Held.{slots, Counted-in, Demands};
+use bus::rows::ROWS;
+use orders::instance::Instance;
+use orders::policy::Policy;
+use crate::row::Row;
+
+// Every row whose wait is over releases an instance.
+fn release(rows: &mut [Option<Row>; ROWS])
+    ensures { λ _. ⌜ slots (now (rows .exit)) ≡ release (slots (now (rows .entry))) ⌝ }
+{
+    for r in 0..ROWS {
+        if let Some(row) = rows[r] {
+            rows[r] = Some(row.release());
+        }
+    }
+}
+
+// Counts a further instance in the demands of those that it goes before, and answers its own among them.
+fn weigh<P: Policy>(
+    policy: &P,
+    waiting: &[Instance; ROWS],
+    count: usize,
+    new: Instance,
+    demands: &mut [u16; ROWS],
+) -> u16
+    requires { ⌜ count < 32 ⌝ ∗ ⌜ ((k : ℕ) → k < count → getD (now demands) k 0 ≤ 255 * count) ⌝ }
+    ensures own { λ r. ⌜ r ≡ new .duration + load (P·Policy .goes (now (policy .entry))) (take count (now (waiting .entry))) new ⌝ }
+    ensures bound { λ r. ⌜ r ≤ 255 * (count + 1) ⌝ ∗ ⌜ ((k : ℕ) → k < count → getD (now (demands .exit)) k 0 ≤ 255 * (count + 1)) ⌝ }
+    ensures others { λ _. ⌜ Counted-in (P·Policy .goes (now (policy .entry))) (now (waiting .entry)) new count (now (demands .entry)) (now (demands .exit)) ⌝ }
+{
+    let mut own = u16::from(new.duration);
+    for k in 0..count {
+        if policy.goes_before(waiting[k], new) {
+            own += units(waiting[k]);
+        } else {
+            demands[k] += units(new);
+        }
+    }
+    own
+}
+
+// For each waiting instance, in the order of the rows, its duration and those of all that go before it.
+fn demands<P: Policy>(rows: &[Option<Row>; ROWS], policy: &P) -> [u16; ROWS]
+    ensures { λ r. ⌜ Demands (P·Policy .goes (now (policy .entry))) (waiters 32 (slots (now (rows .entry)))) r ⌝ }
+{
+    let mut waiting = [NO_INSTANCE; ROWS];
+    let mut demands = [0; ROWS];
+    let mut count = 0;
+    for r in 0..ROWS {
+        if let Some(row) = rows[r]
+            && row.waits()
+        {
+            let new = row.instance(r as u8);
+            let own = weigh(policy, &waiting, count, new, &mut demands);
+            demands[count] = own;
+            waiting[count] = new;
+            count += 1;
+        }
+    }
+    demands
+}
+
+// Fills the places that no instance has taken.
+const NO_INSTANCE: Instance = Instance {
+    row: 0,
+    duration: 0,
+    period: 0,
+    deadline: 0,
+    priority: 0,
+    left: 0,
+};
+
+// The duration, to be added up.
+fn units(i: Instance) -> u16
+    ensures value { λ r. ⌜ r ≡ i .duration ⌝ }
+    ensures bound { λ r. ⌜ r ≤ 255 ⌝ }
+{
+    u16::from(i.duration)
+}

@@ -87,6 +87,10 @@ pub record Gathered (goes : Order) (all waiting : List Instance) (numbers : List
   pub demands : Demands goes all numbers
   pub bound : (k : ℕ) → k < count → getD numbers k 0 ≤ 255 * count
 
+pub gathered-none : (goes : Order) (waiting : List Instance) (numbers : List ℕ) → length waiting ≡ 32 → length numbers ≡ 32 → Gathered goes [] waiting numbers 0
+gathered-none goes waiting numbers spaces places =
+    record { spaces = spaces; places = places; counts = refl; instances = refl; demands = λ k h. absurd (omega arith); bound = λ k h. absurd (omega arith) }
+
 module _ (goes : Order) (all waiting : List Instance) (numbers : List ℕ) (count : ℕ) (so-far : Gathered goes all waiting numbers count) where
   gathered-at : (k : ℕ) → k < count → getD waiting k no-instance ≡ getD all k no-instance
   gathered-at k h = sym (getD-take count waiting k no-instance h) ∙ ap (λ is. getD is k no-instance) (so-far .instances)
@@ -114,3 +118,10 @@ module _ (goes : Order) (all waiting : List Instance) (numbers : List ℕ) (coun
             (ap (λ n. getD (set between count own) n 0) (so-far .counts) ∙ end-is ∙ own-is ∙ ap (λ is. x .duration + load goes is x) (so-far .instances));
           bound = below-more _ count (λ k h. omega (arith, left k h, bounds k h)) (omega (arith, end-is));
         }
+
+-- the same under other names
+pub gathered-as :
+  (goes : Order) (all all′ waiting waiting′ : List Instance) (numbers numbers′ : List ℕ) (count count′ : ℕ)
+  → all′ ≡ all → waiting′ ≡ waiting → numbers′ ≡ numbers → count′ ≡ count
+  → Gathered goes all waiting numbers count → Gathered goes all′ waiting′ numbers′ count′
+gathered-as goes all all′ waiting waiting′ numbers numbers′ count count′ a w n c it = rw (a, w, n, c) it

@@ -2,7 +2,7 @@
 use mathlib.Core.Path.{_≡_, refl, sym, ap, subst, _∙_}
 use mathlib.Core.Bool.{Bool, true, false, cond}
 use mathlib.Core.List.{List, [], _∷_, _++_, append-nil}
-use mathlib.Core.Logic.{inl, inr}
+use mathlib.Core.Logic.{_≢_, inl, inr}
 use Prim.Native.Nat.{ℕ, zero, suc, _+_, _-_, _<_, _≤_}
 use native.Mathlib.Numerals.{add-one}
 use native.Mathlib.Omega.{arith}
@@ -58,15 +58,16 @@ row-below (suc n) t k h =
 
 -- what row r adds
 module _ (r : ℕ) (t : Slots) where
-  pub waiters-empty : t r ≡ None → waiters (r + 1) t ≡ waiters r t
-  waiters-empty empty = waiters-more r t ∙ ap (λ o. waiters r t ++ waiter r o) empty ∙ append-nil (waiters r t)
+  pub waiters-stay : [] ≡ waiter r (t r) → waiters (r + 1) t ≡ waiters r t
+  waiters-stay none = waiters-more r t ∙ ap (λ is. waiters r t ++ is) (sym none) ∙ append-nil (waiters r t)
 
-  module _ (row : Row) (used : t r ≡ Some row) where
-    waiters-used : (b : Bool) → waits row ≡ b → waiters (r + 1) t ≡ waiters r t ++ cond b (instance-of r row ∷ []) []
-    waiters-used b is = waiters-more r t ∙ ap (λ o. waiters r t ++ waiter r o) used ∙ ap (λ b. waiters r t ++ cond b (instance-of r row ∷ []) []) is
+  module _ (x : Instance) (adds : x ∷ [] ≡ waiter r (t r)) where
+    pub waiters-push : waiters (r + 1) t ≡ waiters r t ++ x ∷ []
+    waiters-push = waiters-more r t ∙ ap (λ is. waiters r t ++ is) (sym adds)
 
-    pub waiters-push : waits row ≡ true → waiters (r + 1) t ≡ waiters r t ++ instance-of r row ∷ []
-    waiters-push is = waiters-used true is
-
-    pub waiters-stay : waits row ≡ false → waiters (r + 1) t ≡ waiters r t
-    waiters-stay is = waiters-used false is ∙ append-nil (waiters r t)
+    -- its row is above those before it
+    pub row-apart : (k : ℕ) → k < length (waiters r t) → getD (waiters r t) k no-instance .row ≢ x .row
+    row-apart k h =
+        let own : x .row ≡ r = ap (λ is. getD is 0 no-instance .row) adds ∙ waiter-row r (t r) 0 (omega (arith, ap length adds)) in
+        let below = row-below r t k h in
+        omega arith

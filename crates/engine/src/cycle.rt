@@ -2,7 +2,8 @@
 ghost use mathlib.Core.Path.{_≡_};
 ghost use Prim.Native.Nat.{ℕ, _+_, _*_, _<_, _≤_};
 ghost use lib.ListN.{getD, take};
-ghost use Rattle.engine.specs.Cycle.{load, release, waiters};
+ghost use Rattle.std.specs.Vec.{listOf};
+ghost use Rattle.engine.specs.Cycle.{load, release, waiter, waiters};
 ghost use Rattle.engine.specs.Held.{slots, Counted-in, Demands};
 use bus::rows::ROWS;
 use orders::instance::Instance;
@@ -52,10 +53,7 @@ fn demands<P: Policy>(rows: &[Option<Row>; ROWS], policy: &P) -> [u16; ROWS]
     let mut demands = [0; ROWS];
     let mut count = 0;
     for r in 0..ROWS {
-        if let Some(row) = rows[r]
-            && row.waits()
-        {
-            let new = row.instance(r as u8);
+        if let Some(new) = waiting_instance(rows[r], r as u8) {
             let own = weigh(policy, &waiting, count, new, &mut demands);
             demands[count] = own;
             waiting[count] = new;
@@ -63,6 +61,15 @@ fn demands<P: Policy>(rows: &[Option<Row>; ROWS], policy: &P) -> [u16; ROWS]
         }
     }
     demands
+}
+
+fn waiting_instance(slot: Option<Row>, row: u8) -> Option<Instance>
+    ensures { λ r. ⌜ listOf r ≡ waiter row slot ⌝ }
+{
+    match slot {
+        Some(used) if used.waits() => Some(used.instance(row)),
+        _ => None,
+    }
 }
 
 // Fills the places that no instance has taken.

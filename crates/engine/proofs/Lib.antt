@@ -1,3 +1,5 @@
+pub mod Closing
 pub mod Loads
 pub mod Passes
+pub mod Schedule
 pub mod Waiters

@@ -6,13 +6,14 @@ use Prim.Native.Nat.{ℕ, _+_, _<_, _≤_}
 use lib.Dec.{leb}
 use lib.ListN.{length, getD}
 use Rattle.std.specs.Iters.{counting}
+use Rattle.std.specs.Options.{mapped}
 use Rattle.std.specs.declared.option.Option.{Option}
 use Rattle.std.specs.declared.option.Option.the-variants.{None}
 use Rattle.bus.specs.Rows.{word-of}
 use Rattle.orders.specs.Laws.{Order}
 use Rattle.orders.specs.declared.instance.Instance.{Instance}
 use Rattle.engine.specs.declared.row.Row.{Row}
-use Rattle.engine.specs.Rows.{waits}
+use Rattle.engine.specs.Rows.{waits, closed, misses}
 use Rattle.engine.specs.Cycle.{Slots, Rules, used-and, waiters, load}
 
 -- what each row of the list holds; past its end nothing
@@ -43,6 +44,14 @@ pub record Counted-in (goes : Order) (all : List Instance) (x : Instance) (n : �
 -- whether row r waits and the demand of its instance, which comes after those of the waiting rows below it, is within the window
 abbrev pub within : (demands : List ℕ) → (window : ℕ) → Slots → ℕ → Bool
 within demands window t r = used-and (λ row. waits row && leb (getD demands (length (waiters r t)) 0) window) (t r)
+
+-- the table at the end of a cycle, by which rows were scheduled
+abbrev pub closed-by : (scheduled : ℕ → Bool) → Slots → Slots
+closed-by scheduled t r = mapped (closed (scheduled r)) (t r)
+
+-- which rows are late, by which were scheduled
+abbrev pub late-by : (scheduled : ℕ → Bool) → Slots → ℕ → Bool
+late-by scheduled t r = used-and (misses (scheduled r)) (t r)
 
 -- the word of the rows below n that pass a test
 unfoldable pub word-below : ℕ → (ℕ → Bool) → ℕ

@@ -3,12 +3,21 @@ ghost use mathlib.Core.Path.{_≡_};
 ghost use Prim.Native.Nat.{ℕ, _+_, _*_, _<_, _≤_};
 ghost use lib.ListN.{getD, take};
 ghost use Rattle.std.specs.Vec.{listOf};
-ghost use Rattle.engine.specs.Cycle.{load, release, waiter, waiters};
-ghost use Rattle.engine.specs.Held.{slots, Counted-in, Demands};
+ghost use Rattle.engine.specs.Cycle.{load, lowest, release, waiter, waiters};
+ghost use Rattle.engine.specs.Held.{slots, Counted-in, Demands, within, closed-by, late-by, word-below};
 use bus::rows::ROWS;
+use bus::rows::RowSet;
 use orders::instance::Instance;
 use orders::policy::Policy;
 use crate::row::Row;
+
+// What a cycle did.
+#[derive(Clone, Copy)]
+pub struct Outcome {
+    pub schedule: RowSet,
+    // the lowest of the rows that were late
+    pub late: Option<u8>,
+}
 
 // Every row whose wait is over releases an instance.
 fn release(rows: &mut [Option<Row>; ROWS])
@@ -61,6 +70,30 @@ fn demands<P: Policy>(rows: &[Option<Row>; ROWS], policy: &P) -> [u16; ROWS]
         }
     }
     demands
+}
+
+// The cycle's end: the instances whose demand is within the window are scheduled.
+fn close(rows: &mut [Option<Row>; ROWS], window: u8, demands: &[u16; ROWS]) -> Outcome
+    ensures after { λ _. ⌜ slots (now (rows .exit)) ≡ closed-by (within (now (demands .entry)) window (slots (now (rows .entry)))) (slots (now (rows .entry))) ⌝ }
+    ensures word { λ r. ⌜ r .schedule .word ≡ word-below 32 (within (now (demands .entry)) window (slots (now (rows .entry)))) ⌝ }
+    ensures late { λ r. ⌜ r .late ≡ lowest 32 (late-by (within (now (demands .entry)) window (slots (now (rows .entry)))) (slots (now (rows .entry)))) ⌝ }
+{
+    let mut word = 0;
+    let mut late = None;
+    let mut seen = 0;
+    for r in 0..ROWS {
+        if let Some(row) = rows[r] {
+            let scheduled = row.waits() & (demands[seen] <= u16::from(window));
+            seen += usize::from(row.waits());
+            word |= u32::from(scheduled) << r;
+            late = late.or(row.misses(scheduled).then_some(r as u8));
+            rows[r] = Some(row.close(scheduled));
+        }
+    }
+    Outcome {
+        schedule: RowSet { word },
+        late,
+    }
 }
 
 fn waiting_instance(slot: Option<Row>, row: u8) -> Option<Instance>

@@ -81,28 +81,28 @@ module _ (demands : List ℕ) (window : ℕ) (old rows : List (Option Row)) (r s
     s-late = ap (λ b. misses b row) s-scheduled ∙ sym (ap (used-and (misses (scheduled r))) some)
 
     pub closed-used :
-      (rows′ : List (Option Row)) (seen′ word′ : ℕ) (late′ : Option ℕ)
-      → r < 32 → r < length old
-      → rows′ ≡ set rows r (Some new) → new ≡ closed s row
-      → seen′ ≡ seen + boolByte (waits row)
-      → word′ ≡ bitOr word ((boolByte s * 2 ^ r) % 2 ^ 32)
-      → late′ ≡ orOther late (whenTrue (misses s row) r)
-      → Closed-below demands window old rows′ (r + 1) seen′ word′ late′
+        (rows′ : List (Option Row)) (seen′ word′ : ℕ) (late′ : Option ℕ)
+        → r < 32 → r < length old
+        → rows′ ≡ set rows r (Some new) → new ≡ closed s row
+        → seen′ ≡ seen + boolByte (waits row)
+        → word′ ≡ bitOr word ((boolByte s * 2 ^ r) % 2 ^ 32)
+        → late′ ≡ orOther late (whenTrue (misses s row) r)
+        → Closed-below demands window old rows′ (r + 1) seen′ word′ late′
     closed-used rows′ seen′ word′ late′ in-word-still in-rows rows-is new-is seen-is word-is late-is =
         record {
           few = omega (arith, so-far .few, seen-is, byte-small (waits row));
           waited =
-            omega (arith, seen-is, so-far .waited, ap length (waiters-more r t), length-append (waiters r t) (waiter r (t r)), ap (λ o. length (waiter r o)) some, length-waiter r row);
+              omega (arith, seen-is, so-far .waited, ap length (waiters-more r t), length-append (waiters r t) (waiter r (t r)), ap (λ o. length (waiter r o)) some, length-waiter r row);
           in-word = word-is ∙ ap (λ w. bitOr w ((boolByte s * 2 ^ r) % 2 ^ 32)) (so-far .in-word) ∙ word-below-or scheduled r s in-word-still s-scheduled;
           first-late = late-is ∙ ap (λ o. orOther o (whenTrue (misses s row) r)) (so-far .first-late) ∙ lowest-or (late-by scheduled t) r (misses s row) s-late;
           changed =
-            subst (Changed-below (r + 1) (λ k. closed (scheduled k)) old) (sym rows-is)
-            (changed-used _ old rows r (so-far .changed) row new in-rows used (new-is ∙ ap (λ b. closed b row) s-scheduled));
+              subst (Changed-below (r + 1) (λ k. closed (scheduled k)) old) (sym rows-is)
+              (changed-used _ old rows r (so-far .changed) row new in-rows used (new-is ∙ ap (λ b. closed b row) s-scheduled));
         }
 
 -- the same under other names
 pub closed-as :
-  (demands : List ℕ) (window : ℕ) (old rows rows′ : List (Option Row)) (r seen seen′ word word′ : ℕ) (late late′ : Option ℕ)
-  → rows′ ≡ rows → seen′ ≡ seen → word′ ≡ word → late′ ≡ late
-  → Closed-below demands window old rows r seen word late → Closed-below demands window old rows′ r seen′ word′ late′
+    (demands : List ℕ) (window : ℕ) (old rows rows′ : List (Option Row)) (r seen seen′ word word′ : ℕ) (late late′ : Option ℕ)
+    → rows′ ≡ rows → seen′ ≡ seen → word′ ≡ word → late′ ≡ late
+    → Closed-below demands window old rows r seen word late → Closed-below demands window old rows′ r seen′ word′ late′
 closed-as demands window old rows rows′ r seen seen′ word word′ late late′ a b c d it = rw (a, b, c, d) it

@@ -1,4 +1,5 @@
 pub mod Closing
+pub mod Fits
 pub mod Loads
 pub mod Passes
 pub mod Schedule

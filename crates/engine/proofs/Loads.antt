@@ -44,9 +44,9 @@ module _ (goes : Order) (all : List Instance) (x : Instance) (old new : List ℕ
   counted-added v within is not-before so-far =
       record {
         first =
-          below-more _ k
-          (λ j h. let ne : j ≢ k = omega arith in getD-set-other new k j v 0 ne ∙ so-far .first j h)
-          (getD-set-same new k v 0 within ∙ omega (arith, is, so-far .rest k (omega arith), ap (λ b. cond b 0 (x .duration)) not-before));
+            below-more _ k
+            (λ j h. let ne : j ≢ k = omega arith in getD-set-other new k j v 0 ne ∙ so-far .first j h)
+            (getD-set-same new k v 0 within ∙ omega (arith, is, so-far .rest k (omega arith), ap (λ b. cond b 0 (x .duration)) not-before));
         rest = λ j h. let ne : j ≢ k = omega arith in getD-set-other new k j v 0 ne ∙ so-far .rest j (omega arith);
       }
 
@@ -64,18 +64,18 @@ module _ (goes : Order) (laws : Laws goes) (all : List Instance) (x : Instance) 
   not-itself = ap (λ b. cond b (x .duration) 0) (laws .same-row x x refl)
 
   pub demands-push :
-    (old new : List ℕ) → Demands goes all old
-    → ((k : ℕ) → k < length all → getD new k 0 ≡ getD old k 0 + cond (goes (getD all k no-instance) x) 0 (x .duration))
-    → getD new (length all) 0 ≡ demand goes all x
-    → Demands goes (all ++ x ∷ []) new
+      (old new : List ℕ) → Demands goes all old
+      → ((k : ℕ) → k < length all → getD new k 0 ≡ getD old k 0 + cond (goes (getD all k no-instance) x) 0 (x .duration))
+      → getD new (length all) 0 ≡ demand goes all x
+      → Demands goes (all ++ x ∷ []) new
   demands-push old new were others own k h =
       elim (cases-lt k (length all)) [
         | inl below ↦
-          let same = getD-append-left all (x ∷ []) no-instance k below in
-          others k below ∙ omega (arith, were k below, other-way k below, load-push goes all x (getD all k no-instance)) ∙ ap (demand goes (all ++ x ∷ [])) (sym same)
+            let same = getD-append-left all (x ∷ []) no-instance k below in
+            others k below ∙ omega (arith, were k below, other-way k below, load-push goes all x (getD all k no-instance)) ∙ ap (demand goes (all ++ x ∷ [])) (sym same)
         | inr past ↦
-          let last : length all ≡ k = omega (arith, length-push all x) in
-          ap (λ j. getD new j 0) (sym last) ∙ own ∙ omega (arith, not-itself, load-push goes all x x) ∙ ap (demand goes (all ++ x ∷ [])) (sym (getD-push all x no-instance k last))
+            let last : length all ≡ k = omega (arith, length-push all x) in
+            ap (λ j. getD new j 0) (sym last) ∙ own ∙ omega (arith, not-itself, load-push goes all x x) ∙ ap (demand goes (all ++ x ∷ [])) (sym (getD-push all x no-instance k last))
       ]
 
 -- the waiting instances and their demands, gathered row by row
@@ -97,12 +97,12 @@ module _ (goes : Order) (all waiting : List Instance) (numbers : List ℕ) (coun
 
   module _ (laws : Laws goes) (x : Instance) (room : count < 32) (apart : (k : ℕ) → k < length all → getD all k no-instance .row ≢ x .row) where
     pub gathered-push :
-      (between : List ℕ) (own : ℕ) → length between ≡ 32
-      → Counted-in goes waiting x count numbers between
-      → own ≡ x .duration + load goes (take count waiting) x
-      → own ≤ 255 * (count + 1)
-      → ((k : ℕ) → k < count → getD between k 0 ≤ 255 * (count + 1))
-      → Gathered goes (all ++ x ∷ []) (set waiting count x) (set between count own) (count + 1)
+        (between : List ℕ) (own : ℕ) → length between ≡ 32
+        → Counted-in goes waiting x count numbers between
+        → own ≡ x .duration + load goes (take count waiting) x
+        → own ≤ 255 * (count + 1)
+        → ((k : ℕ) → k < count → getD between k 0 ≤ 255 * (count + 1))
+        → Gathered goes (all ++ x ∷ []) (set waiting count x) (set between count own) (count + 1)
     gathered-push between own long counted own-is own-bound bounds =
         let at-end : count < length between = omega arith in
         let end-is : getD (set between count own) count 0 ≡ own = getD-set-same between count own 0 at-end in
@@ -113,15 +113,15 @@ module _ (goes : Order) (all waiting : List Instance) (numbers : List ℕ) (coun
           counts = length-push all x ∙ ap (λ n. n + 1) (so-far .counts);
           instances = take-more-set waiting count x (omega (arith, so-far .spaces)) ∙ ap (λ is. is ++ x ∷ []) (so-far .instances);
           demands =
-            demands-push goes laws all x apart numbers (set between count own) (so-far .demands)
-            (λ k h. let in-count : k < count = omega (arith, so-far .counts) in left k in-count ∙ counted .first k in-count ∙ ap (λ i. getD numbers k 0 + cond (goes i x) 0 (x .duration)) (gathered-at k in-count))
-            (ap (λ n. getD (set between count own) n 0) (so-far .counts) ∙ end-is ∙ own-is ∙ ap (λ is. x .duration + load goes is x) (so-far .instances));
+              demands-push goes laws all x apart numbers (set between count own) (so-far .demands)
+              (λ k h. let in-count : k < count = omega (arith, so-far .counts) in left k in-count ∙ counted .first k in-count ∙ ap (λ i. getD numbers k 0 + cond (goes i x) 0 (x .duration)) (gathered-at k in-count))
+              (ap (λ n. getD (set between count own) n 0) (so-far .counts) ∙ end-is ∙ own-is ∙ ap (λ is. x .duration + load goes is x) (so-far .instances));
           bound = below-more _ count (λ k h. omega (arith, left k h, bounds k h)) (omega (arith, end-is));
         }
 
 -- the same under other names
 pub gathered-as :
-  (goes : Order) (all all′ waiting waiting′ : List Instance) (numbers numbers′ : List ℕ) (count count′ : ℕ)
-  → all′ ≡ all → waiting′ ≡ waiting → numbers′ ≡ numbers → count′ ≡ count
-  → Gathered goes all waiting numbers count → Gathered goes all′ waiting′ numbers′ count′
+    (goes : Order) (all all′ waiting waiting′ : List Instance) (numbers numbers′ : List ℕ) (count count′ : ℕ)
+    → all′ ≡ all → waiting′ ≡ waiting → numbers′ ≡ numbers → count′ ≡ count
+    → Gathered goes all waiting numbers count → Gathered goes all′ waiting′ numbers′ count′
 gathered-as goes all all′ waiting waiting′ numbers numbers′ count count′ a w n c it = rw (a, w, n, c) it

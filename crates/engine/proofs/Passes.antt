@@ -41,9 +41,9 @@ module _ (change : ℕ → Row → Row) (old rows : List (Option Row)) (r : ℕ)
       record {
         long = length-set rows r (Some new) ∙ so-far .long;
         first =
-          below-more _ r
-          (λ k h. let ne : k ≢ r = omega arith in getD-set-other rows r k (Some new) None ne ∙ so-far .first k h)
-          (getD-set-same rows r (Some new) None (omega (arith, so-far .long)) ∙ ap Some is ∙ ap (mapped (change r)) (sym used ∙ unchanged-yet));
+            below-more _ r
+            (λ k h. let ne : k ≢ r = omega arith in getD-set-other rows r k (Some new) None ne ∙ so-far .first k h)
+            (getD-set-same rows r (Some new) None (omega (arith, so-far .long)) ∙ ap Some is ∙ ap (mapped (change r)) (sym used ∙ unchanged-yet));
         rest = λ k h. let ne : k ≢ r = omega arith in getD-set-other rows r k (Some new) None ne ∙ so-far .rest k (omega arith);
       }
 
@@ -51,7 +51,7 @@ module _ (change : ℕ → Row → Row) (old rows : List (Option Row)) (r : ℕ)
 pub changed-all : (change : ℕ → Row → Row) (old new : List (Option Row)) (n : ℕ) → length old ≤ n → Changed-below n change old new → slots new ≡ λ r. mapped (change r) (slots old r)
 changed-all change old new n end all =
     fun-ext λ r.
-      elim (cases-lt r n) [
-        | inl in-rows ↦ all .first r in-rows
-        | inr past ↦ let empty : slots old r ≡ None = getD-past old r None (omega arith) in all .rest r past ∙ empty ∙ ap (mapped (change r)) (sym empty)
-      ]
+    elim (cases-lt r n) [
+      | inl in-rows ↦ all .first r in-rows
+      | inr past ↦ let empty : slots old r ≡ None = getD-past old r None (omega arith) in all .rest r past ∙ empty ∙ ap (mapped (change r)) (sym empty)
+    ]

@@ -1,5 +1,5 @@
 -- The waiting instances of the first rows. Assumes nothing.
-use mathlib.Core.Path.{_≡_, refl, sym, ap, subst, _∙_}
+use mathlib.Core.Path.{_≡_, refl, sym, ap, ap₂, subst, _∙_}
 use mathlib.Core.Bool.{Bool, true, false, cond}
 use mathlib.Core.List.{List, [], _∷_, _++_, append-nil}
 use mathlib.Core.Logic.{_≢_, inl, inr}
@@ -9,8 +9,8 @@ use native.Mathlib.Omega.{arith}
 use lib.ListN.{length, getD}
 use Rattle.std.specs.declared.option.Option.{Option}
 use Rattle.std.specs.declared.option.Option.the-variants.{Some, None}
-use Rattle.std.proofs.shelf.Lists.{length-append, getD-append-left, getD-append-right}
-use Rattle.std.proofs.shelf.Tests.{cases-lt}
+use Rattle.std.proofs.shelf.Lists.{length-append, getD-append-left, getD-append-right, getD-push}
+use Rattle.std.proofs.shelf.Tests.{cases-lt, cases-order}
 use Rattle.orders.specs.declared.instance.Instance.{Instance}
 use Rattle.engine.specs.declared.row.Row.{Row}
 use Rattle.engine.specs.Rows.{instance-of, waits}
@@ -52,8 +52,8 @@ row-below (suc n) t k h =
     elim (cases-lt k (length (waiters n t))) [
       | inl below ↦ omega (arith, ap (λ i. i .row) (getD-append-left (waiters n t) (waiter n (t n)) no-instance k below), row-below n t k below)
       | inr past ↦
-        let place : k - length (waiters n t) < length (waiter n (t n)) = omega (arith, length-append (waiters n t) (waiter n (t n))) in
-        omega (arith, ap (λ i. i .row) (getD-append-right (waiters n t) (waiter n (t n)) (length (waiters n t)) k no-instance refl past), waiter-row n (t n) (k - length (waiters n t)) place)
+          let place : k - length (waiters n t) < length (waiter n (t n)) = omega (arith, length-append (waiters n t) (waiter n (t n))) in
+          omega (arith, ap (λ i. i .row) (getD-append-right (waiters n t) (waiter n (t n)) (length (waiters n t)) k no-instance refl past), waiter-row n (t n) (k - length (waiters n t)) place)
     ]
 
 -- what row r adds
@@ -71,3 +71,31 @@ module _ (r : ℕ) (t : Slots) where
         let own : x .row ≡ r = ap (λ is. getD is 0 no-instance .row) adds ∙ waiter-row r (t r) 0 (omega (arith, ap length adds)) in
         let below = row-below r t k h in
         omega arith
+
+-- the instance of a waiting row stands after those of the rows below it
+pub waiter-place : (n r : ℕ) (t : Slots) (x : Instance) → r < n → x ∷ [] ≡ waiter r (t r) → length (waiters r t) < length (waiters n t)
+unfolding waiters
+waiter-place zero r t x h adds = absurd (omega arith)
+waiter-place (suc n) r t x h adds =
+    let more = length-append (waiters n t) (waiter n (t n)) in
+    elim (cases-order r n) [
+      | inl here ↦
+          let adds-here : x ∷ [] ≡ waiter n (t n) = subst (λ m. x ∷ [] ≡ waiter m (t m)) here adds in
+          omega (arith, more, ap (λ m. length (waiters m t)) here, ap length adds-here)
+      | inr other ↦ elim other [ inl below ↦ omega (arith, more, waiter-place n r t x below adds) | inr past ↦ absurd (omega arith) ]
+    ]
+
+pub waiter-at : (n r : ℕ) (t : Slots) (x : Instance) → r < n → x ∷ [] ≡ waiter r (t r) → getD (waiters n t) (length (waiters r t)) no-instance ≡ x
+unfolding waiters
+waiter-at zero r t x h adds = absurd (omega arith)
+waiter-at (suc n) r t x h adds =
+    elim (cases-order r n) [
+      | inl here ↦
+          let adds-here : x ∷ [] ≡ waiter n (t n) = subst (λ m. x ∷ [] ≡ waiter m (t m)) here adds in
+          ap₂ (λ m is. getD (waiters n t ++ is) (length (waiters m t)) no-instance) here (sym adds-here) ∙ getD-push (waiters n t) x no-instance (length (waiters n t)) refl
+      | inr other ↦
+          elim other [
+            | inl below ↦ getD-append-left (waiters n t) (waiter n (t n)) no-instance (length (waiters r t)) (waiter-place n r t x below adds) ∙ waiter-at n r t x below adds
+            | inr past ↦ absurd (omega arith)
+          ]
+    ]

@@ -3,13 +3,13 @@ ghost use mathlib.Core.Path.{_≡_};
 ghost use Prim.Native.Nat.{ℕ, _+_, _*_, _<_, _≤_};
 ghost use lib.ListN.{getD, take};
 ghost use Rattle.std.specs.Vec.{listOf};
-ghost use Rattle.engine.specs.Cycle.{load, lowest, release, waiter, waiters};
-ghost use Rattle.engine.specs.Held.{slots, Counted-in, Demands, within, closed-by, late-by, word-below};
+ghost use Rattle.engine.specs.Cycle.{cycle, late-row, load, lowest, release, waiter, waiters, word};
+ghost use Rattle.engine.specs.Held.{slots, rules-of, Counted-in, Demands, within, closed-by, late-by, word-below};
+use crate::row::Row;
 use bus::rows::ROWS;
 use bus::rows::RowSet;
 use orders::instance::Instance;
 use orders::policy::Policy;
-use crate::row::Row;
 
 // What a cycle did.
 #[derive(Clone, Copy)]
@@ -17,6 +17,17 @@ pub struct Outcome {
     pub schedule: RowSet,
     // the lowest of the rows that were late
     pub late: Option<u8>,
+}
+
+// Runs one cycle on the rows.
+pub fn run_cycle<P: Policy>(rows: &mut [Option<Row>; ROWS], window: u8, policy: &P) -> Outcome
+    ensures after { λ _. ⌜ slots (now (rows .exit)) ≡ cycle (rules-of (P·Policy .goes (now (policy .entry))) window) (slots (now (rows .entry))) ⌝ }
+    ensures word { λ r. ⌜ r .schedule .word ≡ word (rules-of (P·Policy .goes (now (policy .entry))) window) (slots (now (rows .entry))) ⌝ }
+    ensures late { λ r. ⌜ r .late ≡ late-row (rules-of (P·Policy .goes (now (policy .entry))) window) (slots (now (rows .entry))) ⌝ }
+{
+    release(rows);
+    let demands = demands(rows, policy);
+    close(rows, window, &demands)
 }
 
 // Every row whose wait is over releases an instance.

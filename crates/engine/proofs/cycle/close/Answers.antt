@@ -23,14 +23,14 @@ loop-r-again c =
     let so-far = c .loop-r .inv in
     elim (c .match-rows-r .came) [
       | in-Some w ↦
-        closed-used _ _ _ _ _ _ _ _ so-far (w .in-Some .row) (w .close .result) _ (w .in-Some .is)
-            (ap₂ (λ b n. b && leb (getD (c .args .demands .now) (c .loop-r .seen) 0) n) (w .waits .ensures) (w .from .ensures))
-            _ _ _ _ (omega arith) (omega arith) (w .rows-is) (w .close .ensures)
-            (w .seen-is ∙ ap (λ n. c .loop-r .seen + n) (w .from-seen .ensures ∙ ap boolByte (w .waits-in-Some .ensures)))
-            (w .word-is ∙ ap (λ n. bitOr (c .loop-r .word) ((n * 2 ^ c .loop-r .r) % 2 ^ 32)) (w .from-in-Some .ensures))
-            (w .late-is ∙ w .or-late .ensures ∙ ap (orOther (c .loop-r .late)) (w .then-some .ensures ∙ ap (λ b. whenTrue b (c .loop-r .r)) (w .misses .ensures)))
+          closed-used _ _ _ _ _ _ _ _ so-far (w .in-Some .row) (w .close .result) _ (w .in-Some .is)
+          (ap₂ (λ b n. b && leb (getD (c .args .demands .now) (c .loop-r .seen) 0) n) (w .waits .ensures) (w .from .ensures))
+          _ _ _ _ (omega arith) (omega arith) (w .rows-is) (w .close .ensures)
+          (w .seen-is ∙ ap (λ n. c .loop-r .seen + n) (w .from-seen .ensures ∙ ap boolByte (w .waits-in-Some .ensures)))
+          (w .word-is ∙ ap (λ n. bitOr (c .loop-r .word) ((n * 2 ^ c .loop-r .r) % 2 ^ 32)) (w .from-in-Some .ensures))
+          (w .late-is ∙ w .or-late .ensures ∙ ap (orOther (c .loop-r .late)) (w .then-some .ensures ∙ ap (λ b. whenTrue b (c .loop-r .r)) (w .misses .ensures)))
       | in-rest w ↦
-        closed-as _ _ _ _ _ _ _ _ _ _ _ _ (w .rows-is) (w .seen-is) (w .word-is) (w .late-is) (closed-empty _ _ _ _ _ _ _ _ so-far (w .in-rest .is))
+          closed-as _ _ _ _ _ _ _ _ _ _ _ _ (w .rows-is) (w .seen-is) (w .word-is) (w .late-is) (closed-empty _ _ _ _ _ _ _ _ so-far (w .in-rest .is))
     ]
 
 pub returns : need.returns

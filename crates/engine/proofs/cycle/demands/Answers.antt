@@ -19,15 +19,17 @@ loop-r-again g c =
     let so-far = c .loop-r .inv .1 in
     elim (c .match-waiting-instance .came) [
       | in-Some w ↦
-        let new = w .in-Some .new in
-        let adds = w .in-Some .ensures tt in
-        let long : length (w .weigh-own .last .demands) ≡ 32 = omega arith in
-        (omega (arith, w .count-is, c .loop-r .inv .0),
-         gathered-as goes _ _ _ _ _ _ _ _ (waiters-push (c .loop-r .r) t new adds) (w .waiting-is) (w .demands-is) (w .count-is)
-             (gathered-push goes (waiters (c .loop-r .r) t) _ _ _ so-far (g .P·Policy·met .lawful (c .args .policy .now)) new (omega (arith, c .loop-r .inv .0)) (row-apart (c .loop-r .r) t new adds) (w .weigh-own .last .demands) (w .weigh-own .result) long (w .weigh-own .ensures .others) (w .weigh-own .ensures .own) (w .weigh-own .ensures .bound .0) (w .weigh-own .ensures .bound .1)))
-      | in-rest w ↦
-        (omega (arith, w .count-is, c .loop-r .inv .0),
-         gathered-as goes _ _ _ _ _ _ _ _ (waiters-stay (c .loop-r .r) t (w .in-rest .ensures tt)) (w .waiting-is) (w .demands-is) (w .count-is) so-far)
+          let new = w .in-Some .new in
+          let adds = w .in-Some .ensures tt in
+          let long : length (w .weigh-own .last .demands) ≡ 32 = omega arith in (
+            omega (arith, w .count-is, c .loop-r .inv .0),
+            gathered-as goes _ _ _ _ _ _ _ _ (waiters-push (c .loop-r .r) t new adds) (w .waiting-is) (w .demands-is) (w .count-is)
+                (gathered-push goes (waiters (c .loop-r .r) t) _ _ _ so-far (g .P·Policy·met .lawful (c .args .policy .now)) new (omega (arith, c .loop-r .inv .0)) (row-apart (c .loop-r .r) t new adds) (w .weigh-own .last .demands) (w .weigh-own .result) long (w .weigh-own .ensures .others) (w .weigh-own .ensures .own) (w .weigh-own .ensures .bound .0) (w .weigh-own .ensures .bound .1)),
+          )
+      | in-rest w ↦ (
+        omega (arith, w .count-is, c .loop-r .inv .0),
+        gathered-as goes _ _ _ _ _ _ _ _ (waiters-stay (c .loop-r .r) t (w .in-rest .ensures tt)) (w .waiting-is) (w .demands-is) (w .count-is) so-far,
+      )
     ]
 
 pub returns : need.returns

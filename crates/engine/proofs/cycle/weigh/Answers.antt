@@ -27,13 +27,15 @@ loop-k-again g c =
     let Done : List ℕ → Type 0 = Counted-in goes (c .args .waiting .now) (c .args .new) (c .loop-k .k + 1) (c .args .demands .now) in
     elim (c .if-goes-before .came) [
       | then-goes-before w ↦
-        let before : goes other (c .args .new) ≡ true = sym (w .if-goes-before .ensures tt) in
-        (omega (arith, more, w .own-is, w .units-own .ensures .value, c .loop-k .inv .0, ap (λ b. cond b (other .duration) 0) before),
-         omega (arith, w .own-is, w .units-own .ensures .bound, c .loop-k .inv .1),
-         subst Done (sym (w .demands-is)) (counted-left goes _ _ _ (c .loop-k .demands) _ before (c .loop-k .inv .2)))
+          let before : true ≡ goes other (c .args .new) = w .if-goes-before .ensures tt in (
+            omega (arith, more, w .own-is, w .units-own .ensures .value, c .loop-k .inv .0, ap (λ b. cond b (other .duration) 0) before),
+            omega (arith, w .own-is, w .units-own .ensures .bound, c .loop-k .inv .1),
+            subst Done (sym (w .demands-is)) (counted-left goes _ _ _ (c .loop-k .demands) _ (sym before) (c .loop-k .inv .2)),
+          )
       | else-goes-before w ↦
-        let after : goes other (c .args .new) ≡ false = sym (w .if-goes-before .ensures tt) in
-        (omega (arith, more, w .own-is, c .loop-k .inv .0, ap (λ b. cond b (other .duration) 0) after),
-         omega (arith, w .own-is, c .loop-k .inv .1),
-         subst Done (sym (w .demands-is)) (counted-added goes _ _ _ (c .loop-k .demands) _ _ (omega arith) (ap (λ v. getD (c .loop-k .demands) (c .loop-k .k) 0 + v) (w .units .ensures .value)) after (c .loop-k .inv .2)))
+          let after : false ≡ goes other (c .args .new) = w .if-goes-before .ensures tt in (
+            omega (arith, more, w .own-is, c .loop-k .inv .0, ap (λ b. cond b (other .duration) 0) after),
+            omega (arith, w .own-is, c .loop-k .inv .1),
+            subst Done (sym (w .demands-is)) (counted-added goes _ _ _ (c .loop-k .demands) _ _ (omega arith) (ap (λ v. getD (c .loop-k .demands) (c .loop-k .k) 0 + v) (w .units .ensures .value)) (sym after) (c .loop-k .inv .2)),
+          )
     ]

@@ -41,30 +41,6 @@ fn release(rows: &mut [Option<Row>; ROWS])
     }
 }
 
-// Counts a further instance in the demands of those that it goes before, and answers its own among them.
-fn weigh<P: Policy>(
-    policy: &P,
-    waiting: &[Instance; ROWS],
-    count: usize,
-    new: Instance,
-    demands: &mut [u16; ROWS],
-) -> u16
-    requires { ⌜ count < 32 ⌝ ∗ ⌜ ((k : ℕ) → k < count → getD (now demands) k 0 ≤ 255 * count) ⌝ }
-    ensures own { λ r. ⌜ r ≡ new .duration + load (P·Policy .goes (now (policy .entry))) (take count (now (waiting .entry))) new ⌝ }
-    ensures bound { λ r. ⌜ r ≤ 255 * (count + 1) ⌝ ∗ ⌜ ((k : ℕ) → k < count → getD (now (demands .exit)) k 0 ≤ 255 * (count + 1)) ⌝ }
-    ensures others { λ _. ⌜ Counted-in (P·Policy .goes (now (policy .entry))) (now (waiting .entry)) new count (now (demands .entry)) (now (demands .exit)) ⌝ }
-{
-    let mut own = u16::from(new.duration);
-    for k in 0..count {
-        if policy.goes_before(waiting[k], new) {
-            own += units(waiting[k]);
-        } else {
-            demands[k] += units(new);
-        }
-    }
-    own
-}
-
 // For each waiting instance, in the order of the rows, its duration and those of all that go before it.
 fn demands<P: Policy>(rows: &[Option<Row>; ROWS], policy: &P) -> [u16; ROWS]
     ensures { λ r. ⌜ Demands (P·Policy .goes (now (policy .entry))) (waiters 32 (slots (now (rows .entry)))) r ⌝ }
@@ -81,6 +57,59 @@ fn demands<P: Policy>(rows: &[Option<Row>; ROWS], policy: &P) -> [u16; ROWS]
         }
     }
     demands
+}
+
+// What a row has waiting, if anything.
+fn waiting_instance(slot: Option<Row>, row: u8) -> Option<Instance>
+    ensures { λ r. ⌜ listOf r ≡ waiter row slot ⌝ }
+{
+    match slot {
+        Some(used) if used.waits() => Some(used.instance(row)),
+        _ => None,
+    }
+}
+
+// Fills the places that no instance has taken.
+const NO_INSTANCE: Instance = Instance {
+    row: 0,
+    duration: 0,
+    period: 0,
+    deadline: 0,
+    priority: 0,
+    left: 0,
+};
+
+// Counts a further instance in the demands of those that it goes before, and answers its own among them.
+fn weigh<P: Policy>(
+    policy: &P,
+    waiting: &[Instance; ROWS],
+    count: usize,
+    new: Instance,
+    demands: &mut [u16; ROWS],
+) -> u16
+    requires { ⌜ count < 32 ⌝ ∗ ⌜ ((k : ℕ) → k < count → getD (now demands) k 0 ≤ 255 * count) ⌝ }
+    ensures own { λ r. ⌜ r ≡ new .duration + load (P·Policy .goes (now (policy .entry))) (take count (now (waiting .entry))) new ⌝ }
+    ensures bound { λ r. ⌜ r ≤ 255 * (count + 1) ⌝ ∗ ⌜ ((k : ℕ) → k < count → getD (now (demands .exit)) k 0 ≤ 255 * (count + 1)) ⌝ }
+    ensures others { λ _. ⌜ Counted-in (P·Policy .goes (now (policy .entry))) (now (waiting .entry)) new count (now (demands .entry)) (now (demands .exit)) ⌝ }
+{
+    let added = units(new);
+    let mut own = added;
+    for k in 0..count {
+        if policy.goes_before(waiting[k], new) {
+            own += units(waiting[k]);
+        } else {
+            demands[k] += added;
+        }
+    }
+    own
+}
+
+// The duration, to be added up.
+fn units(i: Instance) -> u16
+    ensures value { λ r. ⌜ r ≡ i .duration ⌝ }
+    ensures bound { λ r. ⌜ r ≤ 255 ⌝ }
+{
+    u16::from(i.duration)
 }
 
 // The cycle's end: the instances whose demand is within the window are scheduled.
@@ -105,31 +134,4 @@ fn close(rows: &mut [Option<Row>; ROWS], window: u8, demands: &[u16; ROWS]) -> O
         schedule: RowSet { word },
         late,
     }
-}
-
-fn waiting_instance(slot: Option<Row>, row: u8) -> Option<Instance>
-    ensures { λ r. ⌜ listOf r ≡ waiter row slot ⌝ }
-{
-    match slot {
-        Some(used) if used.waits() => Some(used.instance(row)),
-        _ => None,
-    }
-}
-
-// Fills the places that no instance has taken.
-const NO_INSTANCE: Instance = Instance {
-    row: 0,
-    duration: 0,
-    period: 0,
-    deadline: 0,
-    priority: 0,
-    left: 0,
-};
-
-// The duration, to be added up.
-fn units(i: Instance) -> u16
-    ensures value { λ r. ⌜ r ≡ i .duration ⌝ }
-    ensures bound { λ r. ⌜ r ≤ 255 ⌝ }
-{
-    u16::from(i.duration)
 }

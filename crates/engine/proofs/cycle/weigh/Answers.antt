@@ -11,8 +11,8 @@ use Rattle.engine.proofs.cycle.weigh.Needs.{then-goes-before, else-goes-before
 
 pub loop-k-holds : need.loop-k-holds
 loop-k-holds g c = (
-  omega (arith, c .from-own .ensures, load-none (g .P·Policy .goes (c .args .policy .now)) (c .args .new)),
-  omega (arith, c .from-own .ensures),
+  omega (arith, c .units-added .ensures .value, load-none (g .P·Policy .goes (c .args .policy .now)) (c .args .new)),
+  omega (arith, c .units-added .ensures .bound),
   record { first = λ k h. absurd (omega arith); rest = λ k h. refl },
 )
 
@@ -36,6 +36,6 @@ loop-k-again g c =
           let after : false ≡ goes other (c .args .new) = w .if-goes-before .ensures tt in (
             omega (arith, more, w .own-is, c .loop-k .inv .0, ap (λ b. cond b (other .duration) 0) after),
             omega (arith, w .own-is, c .loop-k .inv .1),
-            subst Done (sym (w .demands-is)) (counted-added goes _ _ _ (c .loop-k .demands) _ _ (omega arith) (ap (λ v. getD (c .loop-k .demands) (c .loop-k .k) 0 + v) (w .units .ensures .value)) (sym after) (c .loop-k .inv .2)),
+            subst Done (sym (w .demands-is)) (counted-added goes _ _ _ (c .loop-k .demands) _ _ (omega arith) (ap (λ v. getD (c .loop-k .demands) (c .loop-k .k) 0 + v) (c .units-added .ensures .value)) (sym after) (c .loop-k .inv .2)),
           )
     ]

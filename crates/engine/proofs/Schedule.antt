@@ -1,15 +1,13 @@
 -- The schedule's word and the lowest late row, one row on. Assumes nothing.
-use mathlib.Core.Path.{_≡_, refl, sym, ap, ap₂, subst, _∙_}
-use mathlib.Core.Bool.{Bool, true, false, _&&_, cond}
-use mathlib.Core.List.{map, _∷_, _++_}
-use Prim.Native.Nat.{ℕ, _+_, _*_, _%_, _^_, _<_, _≤_}
-use native.Mathlib.Nat.{zero-mul, one-mul, mod-eq-of-lt}
+use mathlib.Core.Path.{_≡_, refl, sym, ap, subst, _∙_}
+use mathlib.Core.Bool.{Bool, true, false, cond}
+use mathlib.Core.List.{map}
+use Prim.Native.Nat.{ℕ, _+_, _*_, _%_, _^_, _<_}
+use native.Mathlib.Nat.{zero-mul, mod-eq-of-lt}
 use native.Mathlib.Numerals.{add-one}
 use native.Mathlib.Omega.{arith}
 use lib.Bits.{bitOr, or-shifted-r}
-use lib.Dec.{leb}
-use lib.ListN.{length, getD}
-use lib.Pow.{pow-lt, pow-pos}
+use lib.Pow.{pow-lt}
 use mir.Val.{boolByte}
 use Rattle.std.specs.Iters.{counting}
 use Rattle.std.specs.Options.{orOther, whenTrue}

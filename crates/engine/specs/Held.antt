@@ -28,7 +28,7 @@ rules-of goes window = record { goes = goes; window = window; rows = 32 }
 abbrev pub no-instance : Instance
 no-instance = record { row = 0; duration = 0; period = 0; deadline = 0; priority = 0; left = 0 }
 
--- an instance's duration and those of all that go before it: it fits exactly into a window of so many units
+-- an instance's duration and those of all that go before it: the smallest window in which it is scheduled
 abbrev pub demand : Order → List Instance → Instance → ℕ
 demand goes all i = i .duration + load goes all i
 

@@ -1,10 +1,9 @@
-use mathlib.Core.Path.{_≡_, refl, ap, subst}
-use Prim.Native.Nat.{_≤_}
+use mathlib.Core.Path.{_≡_, refl, subst}
 use native.Mathlib.Omega.{arith}
 use lib.ListN.{length}
 use Rattle.engine.specs.Cycle.{waiters}
 use Rattle.engine.specs.Held.{slots, Demands}
-use Rattle.engine.proofs.Loads.{Gathered, gathered-none, gathered-push, gathered-as}
+use Rattle.engine.proofs.Loads.{gathered-none, gathered-push, gathered-as}
 use Rattle.engine.proofs.Waiters.{waiters-none, waiters-stay, waiters-push, row-apart}
 use Rattle.engine.proofs.cycle.demands.Needs as need
 use Rattle.engine.proofs.cycle.demands.Needs.{in-Some, in-rest}

@@ -1,9 +1,9 @@
 use mathlib.Core.Path.{_≡_, refl, sym, ap, subst}
 use mathlib.Core.Bool.{true, false, cond}
 use mathlib.Core.List.{List}
-use Prim.Native.Nat.{ℕ, _+_, _<_, _≤_}
+use Prim.Native.Nat.{ℕ, _+_}
 use native.Mathlib.Omega.{arith}
-use lib.ListN.{length, getD, take}
+use lib.ListN.{getD}
 use Rattle.engine.specs.Held.{no-instance, Counted-in}
 use Rattle.engine.proofs.Loads.{load-none, load-more, counted-left, counted-added}
 use Rattle.engine.proofs.cycle.weigh.Needs as need

@@ -68,15 +68,15 @@ module _ (goes : Order) (n window : ℕ) where
       ⊎-elim
       (λ (early : k < cycles). calm k r early)
       (λ (past : cycles ≤ k).
-          let split : k ≡ cycles + (k - cycles) = omega arith in
-          let before = back cycles t some st calm lighter bound (k - cycles) r (omega arith) in
-          let moved : after rules k t ≡ after rules (k - cycles) (after rules cycles t) = ap (λ m. after rules m t) split ∙ after-add rules cycles (k - cycles) t in
-          ⊎-elim
-          (λ (l : late rules (after rules k t) r ≡ true).
-              let l′ : late rules (after rules (k - cycles) (after rules cycles t)) r ≡ true = subst (λ u. late rules u r ≡ true) moved l in
-              absurd (both-ways _ before (late-after-lighter goes n window window (le-refl window) (k - cycles) (after rules cycles t) t (after-sound rules cycles t st) st lighter r l′)))
-          (λ e. e)
-          (cases-bool (late rules (after rules k t) r)))
+      let split : k ≡ cycles + (k - cycles) = omega arith in
+      let before = back cycles t some st calm lighter bound (k - cycles) r (omega arith) in
+      let moved : after rules k t ≡ after rules (k - cycles) (after rules cycles t) = ap (λ m. after rules m t) split ∙ after-add rules cycles (k - cycles) t in
+      ⊎-elim
+      (λ (l : late rules (after rules k t) r ≡ true).
+      let l′ : late rules (after rules (k - cycles) (after rules cycles t)) r ≡ true = subst (λ u. late rules u r ≡ true) moved l in
+      absurd (both-ways _ before (late-after-lighter goes n window window (le-refl window) (k - cycles) (after rules cycles t) t (after-sound rules cycles t st) st lighter r l′)))
+      (λ e. e)
+      (cases-bool (late rules (after rules k t) r)))
       (cases-lt k cycles)
 
   pub calm-when-lighter : (cycles : ℕ) (t : Slots) → 0 < cycles → Sound t → Calm-for rules cycles t → Lighter (after rules cycles t) t → Calm rules t
@@ -88,6 +88,6 @@ module _ (goes : Order) (n window : ℕ) where
       ⊎-elim
       (λ (early : k < cycles). first k r early)
       (λ (past : cycles ≤ k).
-          let split : k ≡ cycles + (k - cycles) = omega arith in
-          ap (λ u. late rules u r) (ap (λ m. after rules m t) split ∙ after-add rules cycles (k - cycles) t) ∙ then-on (k - cycles) r)
+      let split : k ≡ cycles + (k - cycles) = omega arith in
+      ap (λ u. late rules u r) (ap (λ m. after rules m t) split ∙ after-add rules cycles (k - cycles) t) ∙ then-on (k - cycles) r)
       (cases-lt k cycles)

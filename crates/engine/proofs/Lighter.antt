@@ -75,13 +75,13 @@ waiter-lighter goes r (Some a) (Some b) i sa sb h =
     let one : Row → List Instance = λ row. instance-of r row ∷ [] in
     ⊎-elim
     (λ (wa : waits a ≡ true).
-        let left : load goes (waiter r (Some a)) i ≡ load goes (one a) i = ap (λ v. load goes v i) (cond-true (waits a) (one a) [] wa) in
-        let right : load goes (waiter r (Some b)) i ≡ load goes (one b) i = ap (λ v. load goes v i) (cond-true (waits b) (one b) [] (h .waits wa)) in
-        let same : load goes (one a) i ≡ load goes (one b) i = ap (λ x. load goes (x ∷ []) i) (same-instance r a b sa sb h wa) in
-        omega arith)
+    let left : load goes (waiter r (Some a)) i ≡ load goes (one a) i = ap (λ v. load goes v i) (cond-true (waits a) (one a) [] wa) in
+    let right : load goes (waiter r (Some b)) i ≡ load goes (one b) i = ap (λ v. load goes v i) (cond-true (waits b) (one b) [] (h .waits wa)) in
+    let same : load goes (one a) i ≡ load goes (one b) i = ap (λ x. load goes (x ∷ []) i) (same-instance r a b sa sb h wa) in
+    omega arith)
     (λ (na : waits a ≡ false).
-        let left : load goes (waiter r (Some a)) i ≡ 0 = ap (λ v. load goes v i) (cond-false (waits a) (one a) [] na) in
-        omega arith)
+    let left : load goes (waiter r (Some a)) i ≡ 0 = ap (λ v. load goes v i) (cond-false (waits a) (one a) [] na) in
+    omega arith)
     (cases-bool (waits a))
 
 -- fewer go before an instance in a lighter table
@@ -157,7 +157,7 @@ module _ (goes : Order) (n wide narrow : ℕ) (wider : narrow ≤ wide) where
 
   module _ (t s : Slots) (st : Sound t) (ss : Sound s) (lighter : Lighter t s) where
     row-fits : (r : ℕ) (a b : Row) → sound a ≡ true → sound b ≡ true → Same-or-done a b → waits a ≡ true
-      → (waits b && fits goes narrow (waiters n s) (instance-of r b)) ≡ true → (waits a && fits goes wide (waiters n t) (instance-of r a)) ≡ true
+        → (waits b && fits goes narrow (waiters n s) (instance-of r b)) ≡ true → (waits a && fits goes wide (waiters n t) (instance-of r a)) ≡ true
     row-fits r a b sa sb h wa fb =
         let same = same-instance r a b sa sb h wa in
         let room : b .figures .duration + load goes (waiters n s) (instance-of r b) ≤ narrow = leb-true _ _ (and-parts (waits b) _ fb .1) in
@@ -167,7 +167,7 @@ module _ (goes : Order) (n wide narrow : ℕ) (wider : narrow ≤ wide) where
 
     -- what the second schedules, the first schedules if it still waits there
     slot-fits : (r : ℕ) (a b : Option Row) → Sound-slot a → Sound-slot b → Lighter-slot a b → used-and waits a ≡ true
-      → used-and (λ row. waits row && fits goes narrow (waiters n s) (instance-of r row)) b ≡ true → used-and (λ row. waits row && fits goes wide (waiters n t) (instance-of r row)) a ≡ true
+        → used-and (λ row. waits row && fits goes narrow (waiters n s) (instance-of r row)) b ≡ true → used-and (λ row. waits row && fits goes wide (waiters n t) (instance-of r row)) a ≡ true
     slot-fits r None b sa sb h wa fb = wa
     slot-fits r (Some a) None sa sb h wa fb = absurd h
     slot-fits r (Some a) (Some b) sa sb h wa fb = row-fits r a b sa sb h wa fb

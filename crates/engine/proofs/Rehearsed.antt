@@ -52,7 +52,7 @@ module _ (rules : Rules) (round : ℕ) (t : Slots) where
   slot-back r None b ea eb reg div waited = subst (λ v. Lighter-slot v None) (sym (after-empty rules round t r ea) ∙ eb) tt
   slot-back r (Some x) b ea eb reg div waited =
       let held : Holds (x .figures) (wait-after (x .figures .period) round (x .wait)) b
-          = subst (Holds (x .figures) _) eb (after-holds rules (x .figures) round (x .wait) t r (subst (Holds (x .figures) (x .wait)) (sym ea) (refl, refl))) in
+      = subst (Holds (x .figures) _) eb (after-holds rules (x .figures) round (x .wait) t r (subst (Holds (x .figures) (x .wait)) (sym ea) (refl, refl))) in
       same b (subst (λ w. Holds (x .figures) w b) (turned (x .figures .period) round (x .wait) reg div) held) waited
     where
       same : (c : Option Row) → Holds (x .figures) (x .wait) c → (used-and waits c ≡ true → waits x ≡ true) → Lighter-slot c (Some x)
@@ -98,7 +98,7 @@ module _ (rules : Rules) where
 
   -- the first cycle of a stretch
   begins : (k coming : ℕ) (next : Slots → Verdict) (t : Slots) (l : Option ℕ) → late-row rules t ≡ l
-    → stretch rules (suc k) coming next t ≡ elim l [ Some r ↦ Late r coming | None ↦ stretch rules k (coming + 1) next (cycle rules t) ]
+      → stretch rules (suc k) coming next t ≡ elim l [ Some r ↦ Late r coming | None ↦ stretch rules k (coming + 1) next (cycle rules t) ]
   unfolding stretch
   begins k coming next t l e = ap (λ (v : Option ℕ). elim v as (λ _. Verdict) [ Some r ↦ Late r coming | None ↦ stretch rules k (coming + 1) next (cycle rules t) ]) e
 
@@ -173,11 +173,11 @@ pub regular-lead : (rules : Rules) (n : ℕ) (t : Slots) → Within n t → Soun
 regular-lead rules n t within st =
     regular-by rules (lead-in n t) t st
     (λ r x e.
-        let pos : 0 < x .figures .period = positive x (subst Sound-slot e (st r)) in
-        ⊎-elim
-        (λ (inside : r < n). wait-arrives (x .figures .period) (lead-in n t) (x .wait) pos (omega (arith, in-lead n t r inside, ap wait-of e)))
-        (λ (past : n ≤ r). absurd (some-none (sym e ∙ within r past)))
-        (cases-lt r n))
+    let pos : 0 < x .figures .period = positive x (subst Sound-slot e (st r)) in
+    ⊎-elim
+    (λ (inside : r < n). wait-arrives (x .figures .period) (lead-in n t) (x .wait) pos (omega (arith, in-lead n t r inside, ap wait-of e)))
+    (λ (past : n ≤ r). absurd (some-none (sym e ∙ within r past)))
+    (cases-lt r n))
   where
     positive : (x : Row) → sound x ≡ true → 0 < x .figures .period
     positive x h = grind (arith, tells)

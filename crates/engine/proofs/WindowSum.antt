@@ -61,11 +61,14 @@ module _ (goes : Order) (laws : Laws goes) (t : Slots) (chosen : ℕ → Bool) w
           inr (n, record { inside = omega arith; is = yes-n; others = λ r h c ne. absurd (false≢true (sym (none r (omega arith)) ∙ c)) })
       go (inl none) (inr not-n) = inl (up-to (λ r. chosen r ≡ false) none not-n)
       go (inr x) (inr not-n) =
-          inr (x .0, record {
-            inside = omega (arith, x .1 .inside);
-            is = x .1 .is;
-            others = up-to (λ r. chosen r ≡ true → r ≢ x .0 → goes (inst r) (inst (x .0)) ≡ true) (x .1 .others) (λ c ne. absurd (false≢true (sym not-n ∙ c)));
-          })
+          inr (
+            x .0,
+            record {
+              inside = omega (arith, x .1 .inside);
+              is = x .1 .is;
+              others = up-to (λ r. chosen r ≡ true → r ≢ x .0 → goes (inst r) (inst (x .0)) ≡ true) (x .1 .others) (λ c ne. absurd (false≢true (sym not-n ∙ c)));
+            },
+          )
       go (inr x) (inl yes-n) = turn (cases-bool (goes (inst (x .0)) (inst n)))
         where
           m : ℕ
@@ -86,17 +89,23 @@ module _ (goes : Order) (laws : Laws goes) (t : Slots) (chosen : ℕ → Bool) w
 
           turn : (goes (inst m) (inst n) ≡ true) ⊎ (goes (inst m) (inst n) ≡ false) → Found (suc n)
           turn (inl g) =
-              inr (n, record {
-                inside = omega arith;
-                is = yes-n;
-                others = up-to (λ r. chosen r ≡ true → r ≢ n → goes (inst r) (inst n) ≡ true) (before-n g) (λ c ne. absurd (ne refl));
-              })
+              inr (
+                n,
+                record {
+                  inside = omega arith;
+                  is = yes-n;
+                  others = up-to (λ r. chosen r ≡ true → r ≢ n → goes (inst r) (inst n) ≡ true) (before-n g) (λ c ne. absurd (ne refl));
+                },
+              )
           turn (inr g) =
-              inr (m, record {
-                inside = omega (arith, x .1 .inside);
-                is = x .1 .is;
-                others = up-to (λ r. chosen r ≡ true → r ≢ m → goes (inst r) (inst m) ≡ true) (x .1 .others) (λ c ne. laws .one-way (inst m) (inst n) (apart m n higher) ∙ ap not g);
-              })
+              inr (
+                m,
+                record {
+                  inside = omega (arith, x .1 .inside);
+                  is = x .1 .is;
+                  others = up-to (λ r. chosen r ≡ true → r ≢ m → goes (inst r) (inst m) ≡ true) (x .1 .others) (λ c ne. laws .one-way (inst m) (inst n) (apart m n higher) ∙ ap not g);
+                },
+              )
 
   -- the durations of the chosen rows below k that go before row m
   ahead : ℕ → ℕ → ℕ
@@ -112,10 +121,10 @@ module _ (goes : Order) (laws : Laws goes) (t : Slots) (chosen : ℕ → Bool) w
       ⊎-elim
       (λ (same : k ≡ m). let same-units = ap (λ r. units-of (t r)) same in grind (arith, tells))
       (λ (other : k ≡ m → ⊥).
-          ⊎-elim
-          (λ (c : chosen k ≡ true). let g = last .others k h c other in grind (arith, tells))
-          (λ (c : chosen k ≡ false). grind (arith, tells))
-          (cases-bool (chosen k)))
+      ⊎-elim
+      (λ (c : chosen k ≡ true). let g = last .others k h c other in grind (arith, tells))
+      (λ (c : chosen k ≡ false). grind (arith, tells))
+      (cases-bool (chosen k)))
       (cases-eq k m)
 
 -- a chosen row that waits is among those who may go before
@@ -148,7 +157,7 @@ module _ (rules : Rules) (laws : Laws (rules .goes)) (t : Slots) where
   served-waits r (Some row) e = and-parts (waits row) _ e .0
 
   served-fits : (r : ℕ) (a : Option Row) → used-and (λ row. waits row && fits order (rules .window) (waiters (rules .rows) t) (instance-of r row)) a ≡ true
-    → units-of a + load order (waiters (rules .rows) t) (slot-instance r a) ≤ rules .window
+      → units-of a + load order (waiters (rules .rows) t) (slot-instance r a) ≤ rules .window
   unfolding slot-instance
   served-fits r None e = absurd (false≢true e)
   served-fits r (Some row) e = leb-true _ _ (and-parts (waits row) _ e .1)

@@ -19,6 +19,7 @@ use Rattle.engine.specs.declared.verdict.Verdict.the-variants.{Settled, Late, 
 use Rattle.engine.specs.Rows.{released, waits, misses, sound}
 use Rattle.engine.specs.Cycle.{Slots, Rules, used-and, release, scheduled, cycle, late, late-row, after}
 use Rattle.engine.specs.Comparison.{Sound-slot, Sound, Same-or-done, Lighter-slot, Lighter, Calm, First-late}
+use Rattle.engine.specs.Known.{Same-turn, Waits-come-back}
 use Rattle.engine.specs.Rehearsal.{every, divided-by, round, wait-of, lead-in, settled, stretch, rounds, verdict}
 use Rattle.engine.proofs.Calm.{after-sound, after-add, Calm-for, calm-when-lighter, calm-before}
 use Rattle.engine.proofs.Firsts.{first-some}
@@ -331,3 +332,21 @@ pub calm-when-rehearsed : (goes : Order) (n window limit m : ℕ) (t : Slots) �
   → verdict (record { goes = goes; window = window; rows = n }) m t ≡ Settled → Calm (record { goes = goes; window = window; rows = n }) t
 calm-when-rehearsed goes n window limit m t within st is v =
     calm-when-settled goes n window m (round-some limit n m t is) t (record { within = within; sound = st; divided = divided-by-round limit n m t within is }) v
+
+-- a slot that goes round for a multiple of its period is at the same point again
+pub waits-back : Waits-come-back
+waits-back rules t cycles st within div r =
+    let u = after rules (lead-in (rules .rows) t) t in
+    subst (λ v. Same-turn (v r) (u r)) (sym (after-add rules (lead-in (rules .rows) t) cycles t))
+    (go u (regular-lead rules (rules .rows) t within st) (divided-after rules cycles (lead-in (rules .rows) t) t div) (u r) refl (after rules cycles u r) refl)
+  where
+    same : (x : Row) (b : Option Row) → Holds (x .figures) (x .wait) b → Same-turn b (Some x)
+    same x None h = absurd h
+    same x (Some y) h = h
+
+    go : (u : Slots) → Regular u → Divided cycles u → (a : Option Row) → u r ≡ a → (b : Option Row) → after rules cycles u r ≡ b → Same-turn b a
+    go u reg d None ea b eb = subst (λ v. Same-turn v None) (sym (after-empty rules cycles u r ea) ∙ eb) tt
+    go u reg d (Some x) ea b eb =
+        same x b
+        (subst₂ (Holds (x .figures)) (turned (x .figures .period) cycles (x .wait) (subst Regular-slot ea (reg r)) (subst (λ a. divided-by a cycles ≡ true) ea (d r))) eb
+        (held-after rules cycles u r x ea))

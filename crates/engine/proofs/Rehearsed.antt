@@ -253,8 +253,8 @@ module _ (rules : Rules) where
       ⊎-elim
       (λ (early : i < j). first i early)
       (λ (past : j ≤ i).
-          let split : i ≡ j + (i - j) = omega arith in
-          ap (λ m. late-row rules (after rules m t)) split ∙ ap (late-row rules) (after-add rules j (i - j) t) ∙ later (i - j) (omega arith))
+      let split : i ≡ j + (i - j) = omega arith in
+      ap (λ m. late-row rules (after rules m t)) split ∙ ap (late-row rules) (after-add rules j (i - j) t) ∙ later (i - j) (omega arith))
       (cases-lt i j)
 
   late-then : (j k r : ℕ) (t : Slots) → Quiet rules j t → Late-in rules (after rules j t) k r → Late-in rules t (j + k) r
@@ -329,7 +329,7 @@ unfolding round
 round-some limit n m t e = first-some limit 1 (λ k. every n (λ i. divided-by (t i) k)) m e .above
 
 pub calm-when-rehearsed : (goes : Order) (n window limit m : ℕ) (t : Slots) → Within n t → Sound t → round limit n t ≡ Some m
-  → verdict (record { goes = goes; window = window; rows = n }) m t ≡ Settled → Calm (record { goes = goes; window = window; rows = n }) t
+    → verdict (record { goes = goes; window = window; rows = n }) m t ≡ Settled → Calm (record { goes = goes; window = window; rows = n }) t
 calm-when-rehearsed goes n window limit m t within st is v =
     calm-when-settled goes n window m (round-some limit n m t is) t (record { within = within; sound = st; divided = divided-by-round limit n m t within is }) v
 

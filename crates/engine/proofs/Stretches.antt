@@ -13,7 +13,7 @@ use Rattle.engine.specs.Rehearsal.{lead-in, settled, stretch, rounds, verdict}
 module _ (rules : Rules) where
   -- the first cycle of a stretch
   pub begins : (k coming : ℕ) (next : Slots → Verdict) (t : Slots) (l : Option ℕ) → late-row rules t ≡ l
-    → stretch rules (suc k) coming next t ≡ elim l [ Some r ↦ Late r coming | None ↦ stretch rules k (coming + 1) next (cycle rules t) ]
+      → stretch rules (suc k) coming next t ≡ elim l [ Some r ↦ Late r coming | None ↦ stretch rules k (coming + 1) next (cycle rules t) ]
   unfolding stretch
   begins k coming next t l e = ap (λ (v : Option ℕ). elim v as (λ _. Verdict) [ Some r ↦ Late r coming | None ↦ stretch rules k (coming + 1) next (cycle rules t) ]) e
 
@@ -24,7 +24,7 @@ module _ (rules : Rules) where
       ap (λ k. stretch rules k coming next t) more ∙ begins (n - (d + 1)) coming next t (Some r) e
 
   pub goes-on : (n d coming : ℕ) (next : Slots → Verdict) (t : Slots) → d < n → late-row rules t ≡ None
-    → stretch rules (n - d) coming next t ≡ stretch rules (n - (d + 1)) (coming + 1) next (cycle rules t)
+      → stretch rules (n - d) coming next t ≡ stretch rules (n - (d + 1)) (coming + 1) next (cycle rules t)
   goes-on n d coming next t h e =
       let more : n - d ≡ suc (n - (d + 1)) = omega arith in
       ap (λ k. stretch rules k coming next t) more ∙ begins (n - (d + 1)) coming next t None e

@@ -4,10 +4,8 @@ ghost use Rattle.engine.specs.Known.{Lighter-is-no-later, Waits-come-back};
 
 pub fn lighter_is_no_later()
     ensures { λ _. ⌜ Lighter-is-no-later ⌝ }
-{
-}
+{}
 
 pub fn waits_come_back()
     ensures { λ _. ⌜ Waits-come-back ⌝ }
-{
-}
+{}

@@ -41,10 +41,11 @@ loop-done-again g c =
     let u = slots (c .run-stretch .last .rows) in
     let left = 4 - (c .loop-done .-done + 1) in
     let next = then-on rules (c .args .round) left (c .loop-done .coming) t in
-    let ended = c .if-has-settled .ensures tt .tables t u (c .waiting-start .ensures .value) (c .waiting .ensures .value) in
-    (omega arith,
-    c .loop-done .inv .1 ∙ next-round rules (c .args .round) (c .loop-done .-done) (c .loop-done .coming) t (c .loop-done-test .taken) ∙ c .in-rest .ensures tt next
-    ∙ goes-round rules (c .args .round) left (c .loop-done .coming) t u (sym ended))
+    let ended = c .if-has-settled .ensures tt .tables t u (c .waiting-start .ensures .value) (c .waiting .ensures .value) in (
+      omega arith,
+      c .loop-done .inv .1 ∙ next-round rules (c .args .round) (c .loop-done .-done) (c .loop-done .coming) t (c .loop-done-test .taken) ∙ c .in-rest .ensures tt next
+          ∙ goes-round rules (c .args .round) left (c .loop-done .coming) t u (sym ended),
+    )
 
 pub returns : need.returns
 returns g c = sym (c .loop-done .inv .1 ∙ no-round _ (c .args .round) (c .loop-done .-done) (c .loop-done .coming) _ (c .loop-done-test .left))

@@ -14,10 +14,10 @@ returns-in-Some g c =
 pub loop-done-again : need.loop-done-again
 loop-done-again g c =
     λ next.
-        let rules = rules-of (g .P·Policy .goes (c .args .policy .now)) (c .args .window) in
-        c .loop-done .inv next
-        ∙ goes-on rules (c .args .cycles) (c .loop-done .done) _ next _ (c .loop-done-test .taken) (sym (c .run-cycle .ensures .late) ∙ c .in-rest .is)
-        ∙ ap₂ (λ coming t. stretch rules (c .args .cycles - (c .loop-done .done + 1)) coming next t) (add-assoc (c .args .coming) (c .loop-done .done) 1) (sym (c .run-cycle .ensures .after))
+    let rules = rules-of (g .P·Policy .goes (c .args .policy .now)) (c .args .window) in
+    c .loop-done .inv next
+    ∙ goes-on rules (c .args .cycles) (c .loop-done .done) _ next _ (c .loop-done-test .taken) (sym (c .run-cycle .ensures .late) ∙ c .in-rest .is)
+    ∙ ap₂ (λ coming t. stretch rules (c .args .cycles - (c .loop-done .done + 1)) coming next t) (add-assoc (c .args .coming) (c .loop-done .done) 1) (sym (c .run-cycle .ensures .after))
 
 pub returns : need.returns
 returns g c = λ next. c .loop-done .inv next ∙ is-over _ (c .args .cycles) (c .loop-done .done) _ next _ (c .loop-done-test .left)

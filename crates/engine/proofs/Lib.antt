@@ -1,0 +1,16 @@
+pub mod Calm
+pub mod Closing
+pub mod Firsts
+pub mod Fits
+pub mod Lighter
+pub mod Loads
+pub mod Multiples
+pub mod Passes
+pub mod Rehearsed
+pub mod Schedule
+pub mod Stretches
+pub mod Tests
+pub mod Turns
+pub mod Waiters
+pub mod WaitingRows
+pub mod WindowSum

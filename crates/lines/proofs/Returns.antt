@@ -35,11 +35,11 @@ use Rattle.bus.specs.declared.refusal.Refusal.the-variants.{
   BufferTooShort,
 }
 use Rattle.bus.specs.Refusals.{Told, told, answered}
-use Rattle.lines.specs.declared.form.Figures.{Figures}
+use Rattle.engine.specs.declared.row.Figures.{Figures}
 use Rattle.lines.specs.declared.form.Form.{Form}
 use Rattle.lines.specs.declared.form.Form.the-variants as form
-use Rattle.lines.specs.declared.form.PolicyName.{PolicyName}
-use Rattle.lines.specs.declared.form.PolicyName.the-variants.{RateMonotonic, DeadlineMonotonic, Priority, EarliestDeadline}
+use Rattle.orders.specs.declared.selector.Selector.{Selector}
+use Rattle.orders.specs.declared.selector.Selector.the-variants.{RateMonotonic, DeadlineMonotonic, FixedPriority, EarliestDeadline}
 use Rattle.lines.specs.declared.shape.Stage.the-variants.{Opening}
 use Rattle.lines.specs.declared.word.Word.{Word}
 use Rattle.lines.specs.declared.word.Word.the-variants.{Window, Policy, Drop, Next, Which, Frame, Add, Alter}
@@ -181,10 +181,10 @@ byte-fits n lt = let h = decimal-fits 255 n (omega arith) (omega arith) in (inr 
 half-word-fits : (n : ℕ) → n < 65536 → IsItem (decimal n) × (takes HalfWord (decimal n) ≡ true) × (sound HalfWord (decimal n) ≡ true)
 half-word-fits n lt = let h = decimal-fits 65535 n (omega arith) (omega arith) in (inr (h .0), h .1, h .2)
 
-policy-fits : (p : PolicyName) → IsItem (policy-text p) × (takes Name (policy-text p) ≡ true) × (sound Name (policy-text p) ≡ true)
+policy-fits : (p : Selector) → IsItem (policy-text p) × (takes Name (policy-text p) ≡ true) × (sound Name (policy-text p) ≡ true)
 policy-fits RateMonotonic = (inl (omega arith, (refl, (refl, tt))), refl, refl)
 policy-fits DeadlineMonotonic = (inl (omega arith, (refl, (refl, tt))), refl, refl)
-policy-fits Priority = (inl (omega arith, (refl, (refl, tt))), refl, refl)
+policy-fits FixedPriority = (inl (omega arith, (refl, (refl, tt))), refl, refl)
 policy-fits EarliestDeadline = (inl (omega arith, (refl, (refl, (refl, tt)))), refl, refl)
 
 word-is : (word : Word) → IsWord (word-text word) × (word-named (word-text word) ≡ Some word)
@@ -224,10 +224,10 @@ figures-said f q h = λ i.
       priority = byte-value (f .priority) (omega arith) i;
     }
 
-policy-said : (p : PolicyName) → valueOr (policy-named (policy-text p)) RateMonotonic ≡ p
+policy-said : (p : Selector) → valueOr (policy-named (policy-text p)) RateMonotonic ≡ p
 policy-said RateMonotonic = refl
 policy-said DeadlineMonotonic = refl
-policy-said Priority = refl
+policy-said FixedPriority = refl
 policy-said EarliestDeadline = refl
 
 form-said : (f : Form) (q : ℕ) → InRange f → said (word-of f) (spread q (item-texts f)) ≡ f
@@ -349,7 +349,7 @@ takes-of-kind : (k : Kind) (t : List ℕ) → IsItem t → takes k t ≡ true �
 takes-of-kind Byte t is fits = takes-number t is fits
 takes-of-kind HalfWord t is fits = takes-number t is fits
 takes-of-kind Name t is fits =
-    elim (policy-named t) as (λ o. policy-named t ≡ o → isSome o ≡ true → (p : PolicyName) × (t ≡ policy-text p)) [
+    elim (policy-named t) as (λ o. policy-named t ≡ o → isSome o ≡ true → (p : Selector) × (t ≡ policy-text p)) [
       | None ↦ λ e no-name. absurd (let z : _≡_ {A = ℕ} 0 1 = cc in omega arith)
       | Some p ↦ λ e some. (p, named-text policy-text t policies p e)
     ] refl fits

@@ -7,9 +7,9 @@ use lib.Chars.{codes}
 use Rattle.std.specs.Options.{isSome, valueOr}
 use Rattle.std.specs.declared.option.Option.{Option}
 use Rattle.std.specs.declared.option.Option.the-variants.{Some, None}
-use Rattle.lines.specs.declared.form.PolicyName.{PolicyName}
-use Rattle.lines.specs.declared.form.PolicyName.the-variants.{RateMonotonic, DeadlineMonotonic, Priority, EarliestDeadline}
-use Rattle.lines.specs.declared.form.Figures.{Figures}
+use Rattle.orders.specs.declared.selector.Selector.{Selector}
+use Rattle.orders.specs.declared.selector.Selector.the-variants.{RateMonotonic, DeadlineMonotonic, FixedPriority, EarliestDeadline}
+use Rattle.engine.specs.declared.row.Figures.{Figures}
 use Rattle.lines.specs.declared.form.Form.{Form}
 use Rattle.lines.specs.declared.form.Form.the-variants as form
 use Rattle.lines.specs.declared.word.Word.{Word}
@@ -30,22 +30,22 @@ word-text Frame = codes "frame"
 word-text Add = codes "add"
 word-text Alter = codes "alter"
 
-abbrev pub policy-text : PolicyName → List ℕ
+abbrev pub policy-text : Selector → List ℕ
 policy-text RateMonotonic = codes "rm"
 policy-text DeadlineMonotonic = codes "dm"
-policy-text Priority = codes "pr"
+policy-text FixedPriority = codes "pr"
 policy-text EarliestDeadline = codes "edf"
 
 abbrev pub words : List Word
 words = Window ∷ Policy ∷ Drop ∷ Next ∷ Which ∷ Frame ∷ Add ∷ Alter ∷ []
 
-abbrev pub policies : List PolicyName
-policies = RateMonotonic ∷ DeadlineMonotonic ∷ Priority ∷ EarliestDeadline ∷ []
+abbrev pub policies : List Selector
+policies = RateMonotonic ∷ DeadlineMonotonic ∷ FixedPriority ∷ EarliestDeadline ∷ []
 
 abbrev pub word-named : List ℕ → Option Word
 word-named t = named word-text t words
 
-abbrev pub policy-named : List ℕ → Option PolicyName
+abbrev pub policy-named : List ℕ → Option Selector
 policy-named t = named policy-text t policies
 
 -- the five figures of a message
@@ -104,7 +104,7 @@ unsound (k ∷ ks) ps = cond (sound k (front ps .text)) (unsound ks (behind ps))
 abbrev pub number : List Placed → ℕ
 number ps = value (front ps .text)
 
-abbrev pub policy : List Placed → PolicyName
+abbrev pub policy : List Placed → Selector
 policy ps = valueOr (policy-named (front ps .text)) RateMonotonic
 
 -- the figures of a message, from its duration to its priority

@@ -12,7 +12,7 @@ use Rattle.std.specs.declared.result.Result.the-variants.{Ok, Err}
 use Rattle.bus.specs.declared.refusal.Refusal.{Refusal}
 use Rattle.bus.specs.declared.refusal.Refusal.the-variants.{BadSign, BadItem, BadNumber}
 use Rattle.bus.specs.Refusals.{Told, told}
-use Rattle.lines.specs.declared.form.Figures.{Figures}
+use Rattle.engine.specs.declared.row.Figures.{Figures}
 use Rattle.lines.specs.declared.form.Form.{Form}
 use Rattle.lines.specs.declared.shape.Stage.the-variants.{Opening}
 use Rattle.lines.specs.declared.word.Word.{Word}

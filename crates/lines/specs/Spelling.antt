@@ -3,10 +3,10 @@ use mathlib.Core.Path.{_≡_}
 use mathlib.Core.List.{List, [], _∷_}
 use Prim.Native.Nat.{ℕ, _<_}
 use Rattle.std.specs.Written.{decimal}
-use Rattle.lines.specs.declared.form.Figures.{Figures}
+use Rattle.engine.specs.declared.row.Figures.{Figures}
 use Rattle.lines.specs.declared.form.Form.{Form}
 use Rattle.lines.specs.declared.form.Form.the-variants.{Window, Policy, Drop, Next, Which, Frame, Add, Alter}
-use Rattle.lines.specs.declared.form.PolicyName.{PolicyName}
+use Rattle.orders.specs.declared.selector.Selector.{Selector}
 use Rattle.lines.specs.declared.word.Kind.{Kind}
 use Rattle.lines.specs.declared.word.Kind.the-variants as kind
 use Rattle.lines.specs.declared.word.Word.{Word}
@@ -60,7 +60,7 @@ InRange (Alter row f) = (row < 256) × FiguresFit f
 abbrev pub OfKind : Kind → List ℕ → Type 0
 OfKind kind.Byte t = IsNumber t
 OfKind kind.HalfWord t = IsNumber t
-OfKind kind.PolicyName t = (p : PolicyName) × (t ≡ policy-text p)
+OfKind kind.PolicyName t = (p : Selector) × (t ≡ policy-text p)
 
 abbrev pub OfKinds : List Kind → List (List ℕ) → Type 0
 OfKinds [] [] = Unit {0}

@@ -1,27 +1,15 @@
 // What a line can say.
-
-#[derive(Clone, Copy, PartialEq, Eq, Debug)]
-pub enum PolicyName {
-    RateMonotonic,
-    DeadlineMonotonic,
-    Priority,
-    EarliestDeadline,
-}
-
-// The figures of a message.
-#[derive(Clone, Copy, PartialEq, Eq, Debug)]
-pub struct Figures {
-    pub duration: u8,
-    pub period: u8,
-    pub deadline: u8,
-    pub phase: u8,
-    pub priority: u8,
-}
+use engine::row::Figures;
+use engine::row::FiguresDebug;
+use engine::row::FiguresPartialEq;
+use orders::selector::Selector;
+use orders::selector::SelectorDebug;
+use orders::selector::SelectorPartialEq;
 
 #[derive(Clone, Copy, PartialEq, Eq, Debug)]
 pub enum Form {
     Window(u8),
-    Policy(PolicyName),
+    Policy(Selector),
     Drop(u8),
     Next(u8),
     Which,

@@ -11,15 +11,15 @@ ghost use Rattle.lines.specs.Parts.{left, last-place};
 ghost use Rattle.lines.specs.Forms.{kinds, front, behind, policy-named, policy, misfit};
 ghost use Rattle.lines.specs.Reading.{bad-item, unless, word-read, items-read, Numbered, Figured};
 ghost use Rattle.lines.specs.Laws.{Reads};
-use crate::form::Figures;
 use crate::form::Form;
-use crate::form::PolicyName;
 use crate::number::read_number;
 use crate::part::Rest;
 use crate::shape::check_shape;
 use crate::word::Word;
 use crate::word::policy_named;
 use bus::refusal::Refusal;
+use engine::row::Figures;
+use orders::selector::Selector;
 
 impl Rest<'_> {
     // The form's word.
@@ -61,7 +61,7 @@ impl Rest<'_> {
     }
 
     // The policy that the next item names.
-    fn policy(&mut self) -> PolicyName
+    fn policy(&mut self) -> Selector
         requires { ⌜ isSome (policy-named (front (left (now self)) .text)) ≡ true ⌝ }
         ensures { λ r. ⌜ r ≡ policy (left (now (self .entry))) ⌝ }
     {

@@ -1,9 +1,9 @@
 // The words of the forms, and the items that follow each.
 ghost use mathlib.Core.Path.{_≡_};
 ghost use Rattle.lines.specs.Forms.{word-text, policy-text, word-named, policy-named, kinds, takes, is-number};
-use crate::form::PolicyName;
 use crate::name::Name;
 use crate::name::find;
+use orders::selector::Selector;
 
 #[derive(Clone, Copy)]
 pub enum Word {
@@ -38,22 +38,22 @@ const WORDS: [Word; 8] = [
     Word::Alter,
 ];
 
-const POLICIES: [PolicyName; 4] = [
-    PolicyName::RateMonotonic,
-    PolicyName::DeadlineMonotonic,
-    PolicyName::Priority,
-    PolicyName::EarliestDeadline,
+const POLICIES: [Selector; 4] = [
+    Selector::RateMonotonic,
+    Selector::DeadlineMonotonic,
+    Selector::FixedPriority,
+    Selector::EarliestDeadline,
 ];
 
-impl Name for PolicyName as PolicyByName {
+impl Name for Selector as PolicyByName {
     ghost written = { policy-text };
 
     fn text(self) -> &'static [u8] {
         match self {
-            PolicyName::RateMonotonic => b"rm",
-            PolicyName::DeadlineMonotonic => b"dm",
-            PolicyName::Priority => b"pr",
-            PolicyName::EarliestDeadline => b"edf",
+            Selector::RateMonotonic => b"rm",
+            Selector::DeadlineMonotonic => b"dm",
+            Selector::FixedPriority => b"pr",
+            Selector::EarliestDeadline => b"edf",
         }
     }
 }
@@ -75,7 +75,7 @@ impl Name for Word as WordByName {
     }
 }
 
-pub fn policy_named(text: &[u8]) -> Option<PolicyName>
+pub fn policy_named(text: &[u8]) -> Option<Selector>
     ensures { λ r. ⌜ r ≡ policy-named (now (text .entry)) ⌝ }
 {
     find(&POLICIES, text)

@@ -1,12 +1,12 @@
 // Each form, read.
 use bus::refusal::RefusalDebug;
 use bus::refusal::RefusalPartialEq;
-use lines::form::Figures;
+use engine::row::Figures;
 use lines::form::Form;
 use lines::form::FormDebug;
 use lines::form::FormPartialEq;
-use lines::form::PolicyName;
 use lines::reader::read_form;
+use orders::selector::Selector;
 use std::test::*;
 
 #[test]
@@ -22,19 +22,19 @@ fn one_number() -> Result<(), Fail> {
 fn policies() -> Result<(), Fail> {
     check_eq(
         read_form(b"(policy rm)"),
-        Ok(Form::Policy(PolicyName::RateMonotonic)),
+        Ok(Form::Policy(Selector::RateMonotonic)),
     )?;
     check_eq(
         read_form(b"(policy dm)"),
-        Ok(Form::Policy(PolicyName::DeadlineMonotonic)),
+        Ok(Form::Policy(Selector::DeadlineMonotonic)),
     )?;
     check_eq(
         read_form(b"(policy pr)"),
-        Ok(Form::Policy(PolicyName::Priority)),
+        Ok(Form::Policy(Selector::FixedPriority)),
     )?;
     check_eq(
         read_form(b"(policy edf)"),
-        Ok(Form::Policy(PolicyName::EarliestDeadline)),
+        Ok(Form::Policy(Selector::EarliestDeadline)),
     )
 }
 

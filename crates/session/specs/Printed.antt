@@ -1,8 +1,11 @@
 -- What is printed for an answer. Assumes nothing.
-use mathlib.Core.List.{List, _++_}
-use Prim.Native.Nat.{ℕ}
+use mathlib.Core.Bool.{cond}
+use mathlib.Core.List.{List, [], _∷_, _++_}
+use Prim.Native.Nat.{ℕ, _+_, _-_, _/_, _%_}
+use lib.Dec.{ltb}
 use lib.Chars.{codes}
 use Rattle.std.specs.Written.{decimal}
+use Rattle.bus.specs.Triggers.{trigger-bytes}
 use Rattle.bus.specs.Refusals.{told, field-number}
 use Rattle.bus.specs.declared.refusal.Refusal.{Refusal}
 use Rattle.bus.specs.declared.refusal.Refusal.the-variants.{
@@ -24,7 +27,7 @@ use Rattle.bus.specs.declared.refusal.Refusal.the-variants.{
   BufferTooShort,
 }
 use Rattle.session.specs.declared.answer.Answer.{Answer}
-use Rattle.session.specs.declared.answer.Answer.the-variants.{Units, Refused}
+use Rattle.session.specs.declared.answer.Answer.the-variants.{Made, Units, Label, Send, Refused}
 
 abbrev located : List ℕ → ℕ → ℕ → List ℕ
 located fault line place = fault ++ (decimal line ++ (codes ") (place " ++ (decimal place ++ codes "))")))
@@ -54,6 +57,22 @@ refused line TooManyDataBytes = declined TooManyDataBytes
 refused line FrameTooLong = declined FrameTooLong
 refused line (BufferTooShort needed) = declined (BufferTooShort needed)
 
+-- 0 to 9, then a to f
+abbrev pub hex-digit : ℕ → ℕ
+hex-digit n = cond (ltb n 10) (48 + n) (97 + (n - 10))
+
+abbrev pub hex-byte : ℕ → List ℕ
+hex-byte b = hex-digit (b / 16) ∷ hex-digit (b % 16) ∷ []
+
+-- a trigger's four bytes
+abbrev pub hex-bytes : List ℕ → List ℕ
+hex-bytes [] = []
+hex-bytes (b ∷ []) = hex-byte b
+hex-bytes (b ∷ c ∷ bs) = hex-byte b ++ (codes " " ++ hex-bytes (c ∷ bs))
+
 abbrev pub printed : Answer → List ℕ
+printed Made = codes "(ok)"
+printed (Label n) = codes "(label " ++ (decimal n ++ codes ")")
+printed (Send rows) = codes "(send " ++ (hex-bytes (trigger-bytes (rows .word)) ++ codes ")")
 printed (Units n) = codes "(units " ++ (decimal n ++ codes ")")
 printed (Refused f) = refused (f .line) (f .refusal)

@@ -1,36 +1,53 @@
 // Reads bracket lines on standard input, and prints the answer to each.
-use session::answer::Answer;
 use session::answer::AnswerDisplay;
 use session::input::LineBuffer;
-use session::reply::answer_line;
+use session::reply::Reply;
+use session::session::Session;
 use std::io;
 use std::io::Read;
 
-// Prints the answer to the line with this number, if it has one.
-fn answer(rt: &LibcRuntime, line: &[u8], number: u32) -> io::Result<()> {
-    match answer_line(line, number) {
-        Some(answer) => rt.println(answer),
-        None => Ok(()),
+// Answers the line with this number.
+fn answer(rt: &LibcRuntime, session: Session, line: &[u8], number: u32) -> io::Result<Session> {
+    let mut session = session;
+    match session.answer(line, number) {
+        Reply::Nothing => {}
+        Reply::Line(answer) => rt.println(answer)?,
+        Reply::Cycles(cycles) => {
+            for _ in 0..cycles {
+                let (next, trigger) = session.cycle();
+                session = next;
+                rt.println(trigger)?;
+            }
+        }
     }
+    Ok(session)
 }
 
 // Takes in a part of the input, and answers each line that ends in it.
-fn take(rt: &LibcRuntime, part: &[u8], line: &mut LineBuffer, number: &mut u32) -> io::Result<()> {
+fn take(
+    rt: &LibcRuntime,
+    session: Session,
+    part: &[u8],
+    line: &mut LineBuffer,
+    number: &mut u32,
+) -> io::Result<Session> {
+    let mut session = session;
     for byte in part {
         if *byte == b'\n' {
-            answer(rt, line.line(), *number)?;
+            session = answer(rt, session, line.line(), *number)?;
             line.clear();
             *number = number.saturating_add(1);
         } else {
             line.push(*byte);
         }
     }
-    Ok(())
+    Ok(session)
 }
 
 fn main(rt: LibcRuntime) -> io::Result<()> {
     let mut input = rt.stdin();
     let mut part = [0u8; 4096];
+    let mut session = Session::new();
     let mut line = LineBuffer::new();
     let mut number = 1;
     for _ in 0..u64::MAX {
@@ -38,7 +55,8 @@ fn main(rt: LibcRuntime) -> io::Result<()> {
         if count == 0 {
             break;
         }
-        take(&rt, &part[0..count], &mut line, &mut number)?;
+        session = take(&rt, session, &part[0..count], &mut line, &mut number)?;
     }
-    answer(&rt, line.line(), number)
+    let _session = answer(&rt, session, line.line(), number)?;
+    Ok(())
 }

@@ -1,1 +1,4 @@
+pub mod Accounts
 pub mod Examples
+pub mod Fates
+pub mod Numbers

@@ -1,7 +1,9 @@
 pub mod Accounts
 pub mod Examples
 pub mod Fates
+pub mod Keeping
 pub mod Numbers
+pub mod Safe
 pub mod Sums
 pub mod Ties
 pub mod Turn

@@ -62,7 +62,7 @@ use Rattle.ftt.proofs.Turn.{turn-tie}
 some-is-none : {X : Type 0} {x : X} → Some x ≡ None → ⊥
 some-is-none e = let z : _≡_ {A = ℕ} 0 1 = cc in omega arith
 
-both-passed : {X : Type 0} (a b : Option X) → first-of a b ≡ None → (a ≡ None) × (b ≡ None)
+pub both-passed : {X : Type 0} (a b : Option X) → first-of a b ≡ None → (a ≡ None) × (b ≡ None)
 both-passed None b e = (refl, e)
 both-passed (Some x) b e = absurd (some-is-none e)
 
@@ -151,7 +151,7 @@ module _ {P : Type 0} (goes : P → Order) (rows limit : ℕ) where
         (subst (λ u. Tie u (begin r f (end r l))) (put-twice r (Some (new-row f)) None t) (begin-tie (put r None t) (end r l) r f emptied (end-tie t l r used (sure .tie))))
         (sure .window) e
 
-    made-remove : (r : ℕ) (s′ : State P) → checks goes rows limit s (remove r) ≡ None → outcome goes rows limit s (remove r) ≡ Ok s′ → Sure s′ (end r l)
+    pub made-remove : (r : ℕ) (s′ : State P) → checks goes rows limit s (remove r) ≡ None → outcome goes rows limit s (remove r) ≡ Ok s′ → Sure s′ (end r l)
     unfolding checks outcome
     made-remove r s′ ok e =
         let a = both-passed (refused-if (leb rows r) (numbered 1 [])) _ ok in
@@ -170,7 +170,7 @@ module _ {P : Type 0} (goes : P → Order) (rows limit : ℕ) where
         let tie = sure .tie in
         record { unbroken = tie .unbroken; counts = tie .counts; tied = tie .tied; long = tie .long; in-window = tie .in-window }
 
-    made-window : (w : ℕ) (s′ : State P) → outcome goes rows limit s (set-window w) ≡ Ok s′ → Sure s′ (widen w l)
+    pub made-window : (w : ℕ) (s′ : State P) → outcome goes rows limit s (set-window w) ≡ Ok s′ → Sure s′ (widen w l)
     unfolding outcome
     made-window w s′ e = go (leb (s .window) w) refl e
       where

@@ -3,6 +3,7 @@ pub mod Examples
 pub mod Fates
 pub mod Keeping
 pub mod Numbers
+pub mod Relief
 pub mod Safe
 pub mod Sums
 pub mod Ties

@@ -62,7 +62,7 @@ put-slots Q r a t new old k = elim (eqb k r) as (λ b. Q (cond b a (t k))) [ tru
 pub put-within : (n r : ℕ) (a : Option Row) (t : Slots) → r < n → Within n t → Within n (put r a t)
 put-within n r a t low within k past = put-other r k a t (λ e. omega arith) ∙ within k past
 
-lighter-itself : (t : Slots) → Lighter t t
+pub lighter-itself : (t : Slots) → Lighter t t
 lighter-itself t r = slot (t r)
   where
     slot : (a : Option Row) → Lighter-slot a a

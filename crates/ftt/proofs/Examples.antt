@@ -10,7 +10,7 @@ use Rattle.orders.specs.ByKey.{rate-monotonic}
 use Rattle.orders.specs.Laws.{Order}
 use Rattle.engine.specs.declared.row.Figures.{Figures}
 use Rattle.ftt.specs.Calls.{Call, Answer, Report, fresh, rehearsed, checks, outcome, cycled, step, history}
-use Rattle.ftt.specs.Calls.Call.{add, alter, remove, set-window, set-policy, next}
+use Rattle.ftt.specs.Calls.Call.{add, alter, drop, set-window, set-policy, next}
 use Rattle.ftt.specs.Calls.Answer.{made, declined, schedule}
 use Rattle.ftt.specs.Calls.Report.{sent, lost}
 use Rattle.ftt.specs.Ledger.{Message, Ledger, blank, entered, released, is-scheduled, is-waiting, is-withdrawn, one-if}
@@ -64,7 +64,7 @@ good =
     ∷ next sent
     ∷ alter 0 (message 6 3 3 0)
     ∷ next sent
-    ∷ remove 1
+    ∷ drop 1
     ∷ next sent
     ∷ []
 
@@ -81,7 +81,7 @@ good-ledger = refl
 abbrev declined-calls : List (Call (Unit {0}))
 declined-calls =
     add 4 (message 0 0 0 0)
-    ∷ remove 0
+    ∷ drop 0
     ∷ add 0 (message 0 0 0 0)
     ∷ add 0 (message 1 0 0 0)
     ∷ add 0 (message 1 2 3 0)
@@ -135,24 +135,24 @@ unfolding entered every fates fates-to
 twice = refl
 
 -- given up after its last cycle
-given-up-late : shown (added 3 1 0 ∷ told 0 ∷ (remove 0, made) ∷ []) ≡ (false, (0 ∷ []) ∷ [])
+given-up-late : shown (added 3 1 0 ∷ told 0 ∷ (drop 0, made) ∷ []) ≡ (false, (0 ∷ []) ∷ [])
 unfolding entered every fates fates-to
 given-up-late = refl
 
 abbrev broken-by : List (Call (Unit {0}) × Answer) → Bool
 broken-by xs = ledger xs .broken
 
--- a row without a message, a bit past the rows, a row before its release, an add over a live row, a removal of a free one, and answers of the wrong kind
+-- a row without a message, a bit past the rows, a row before its release, an add over a live row, a drop of a free one, and answers of the wrong kind
 breaches : map broken-by
     ((added 3 3 0 ∷ told 2 ∷ [])
     ∷ (told 16 ∷ [])
     ∷ (added 3 3 2 ∷ told 0 ∷ told 1 ∷ [])
     ∷ (added 3 3 0 ∷ added 3 3 0 ∷ [])
-    ∷ (added 3 3 0 ∷ (remove 0, made) ∷ (remove 0, made) ∷ [])
+    ∷ (added 3 3 0 ∷ (drop 0, made) ∷ (drop 0, made) ∷ [])
     ∷ ((alter 0 (message 1 1 1 0), made) ∷ [])
     ∷ ((next sent, made) ∷ [])
     ∷ ((next lost, declined (numbered 1 [])) ∷ [])
-    ∷ ((remove 0, schedule 0) ∷ [])
+    ∷ ((drop 0, schedule 0) ∷ [])
     ∷ [])
     ≡ true ∷ true ∷ true ∷ true ∷ true ∷ true ∷ true ∷ true ∷ true ∷ []
 unfolding entered every

@@ -49,10 +49,10 @@ use Rattle.ftt.specs.Calls.{
   run,
   history,
 }
-use Rattle.ftt.specs.Calls.Call.{add, alter, remove, set-window, set-policy, next}
+use Rattle.ftt.specs.Calls.Call.{add, alter, drop, set-window, set-policy, next}
 use Rattle.ftt.specs.Calls.Answer.{made, declined, schedule}
 use Rattle.ftt.specs.Ledger.{Message, Ledger, blank, begin, end, widen, by-answer, enter, entered}
-use Rattle.ftt.specs.Promise.{Kept, Every-list-kept}
+use Rattle.ftt.specs.Promise.{Kept, ledger-of}
 use Rattle.ftt.proofs.Safe.{Safe, safe-empty, safe-next, safe-without, safe-wider, put-slots, put-within, rehearsed-safe, err-is-ok, same-ok}
 use Rattle.ftt.proofs.Ties.{Tie, accounted-when-tied, begin-tie, end-tie}
 use Rattle.ftt.proofs.Turn.{turn-tie}
@@ -151,9 +151,9 @@ module _ {P : Type 0} (goes : P → Order) (rows limit : ℕ) where
         (subst (λ u. Tie u (begin r f (end r l))) (put-twice r (Some (new-row f)) None t) (begin-tie (put r None t) (end r l) r f emptied (end-tie t l r used (sure .tie))))
         (sure .window) e
 
-    pub made-remove : (r : ℕ) (s′ : State P) → checks goes rows limit s (remove r) ≡ None → outcome goes rows limit s (remove r) ≡ Ok s′ → Sure s′ (end r l)
+    pub made-drop : (r : ℕ) (s′ : State P) → checks goes rows limit s (drop r) ≡ None → outcome goes rows limit s (drop r) ≡ Ok s′ → Sure s′ (end r l)
     unfolding checks outcome
-    made-remove r s′ ok e =
+    made-drop r s′ ok e =
         let a = both-passed (refused-if (leb rows r) (numbered 1 [])) _ ok in
         let b = both-passed (refused-if (not (is-used (t r))) (numbered 3 [])) _ (a .1) in
         let low : r < rows = leb-false rows r (passed _ _ (a .0)) in
@@ -190,8 +190,8 @@ module _ {P : Type 0} (goes : P → Order) (rows limit : ℕ) where
         by-outcome s l (begin r f l) _ sure (λ s′ e. let c = checked (checks goes rows limit s (add r f)) _ s′ e in made-add r f s′ (c .0) (c .1))
     call-kept laws (alter r f) =
         by-outcome s l (begin r f (end r l)) _ sure (λ s′ e. let c = checked (checks goes rows limit s (alter r f)) _ s′ e in made-alter r f s′ (c .0) (c .1))
-    call-kept laws (remove r) =
-        by-outcome s l (end r l) _ sure (λ s′ e. let c = checked (checks goes rows limit s (remove r)) _ s′ e in made-remove r s′ (c .0) (c .1))
+    call-kept laws (drop r) =
+        by-outcome s l (end r l) _ sure (λ s′ e. let c = checked (checks goes rows limit s (drop r)) _ s′ e in made-drop r s′ (c .0) (c .1))
     call-kept laws (set-window w) =
         by-outcome s l (widen w l) _ sure (λ s′ e. let c = checked (checks goes rows limit s (set-window w)) _ s′ e in made-window w s′ (c .1))
     call-kept laws (set-policy p) =
@@ -219,5 +219,5 @@ module _ {P : Type 0} (goes : P → Order) (rows limit : ℕ) where
         in-window = sure .tie .in-window;
       }
 
-  pub every-list-kept : ((p : P) → Laws (goes p)) → Every-list-kept goes rows limit
+  pub every-list-kept : ((p : P) → Laws (goes p)) → (p : P) (calls : List (Call P)) → Kept (ledger-of goes rows limit p calls)
   every-list-kept laws p calls = kept-when-sure _ _ (list-kept laws calls (fresh p) blank (sure-fresh p))

@@ -1,13 +1,14 @@
 -- How many instances a message has released, by the wait for the next one. Assumes nothing.
 use mathlib.Core.Path.{_≡_, refl, sym, ap, _∙_}
 use mathlib.Core.Bool.{cond}
+use mathlib.Core.Logic.{⊎-elim}
 use Prim.Native.Nat.{ℕ, zero, suc, _+_, _-_, _*_, _/_, _≤_, _<_}
-use native.Mathlib.Nat.{zero-mul, suc-mul, mul-add-div-right, div-eq-of-lt}
+use native.Mathlib.Nat.{zero-mul, suc-mul, mul-add-div-right, div-eq-of-lt, le-div-iff-mul-le}
 use native.Mathlib.Omega.{arith}
 use lib.Dec.{leb}
-use Rattle.std.proofs.shelf.Tests.{cond-true, cond-false, le-leb, lt-leb}
+use Rattle.std.proofs.shelf.Tests.{cases-lt, cond-true, cond-false, le-leb, lt-leb}
 use Rattle.engine.specs.declared.row.Figures.{Figures}
-use Rattle.ftt.specs.Ledger.{releases, release-cycle}
+use Rattle.ftt.specs.Ledger.{releases, release-cycle, Released-there}
 
 -- whole periods and less than one more
 whole : (p q r : ℕ) → r < p → (q * p + r) / p ≡ q
@@ -38,9 +39,16 @@ pub one-less : (k p : ℕ) → 1 ≤ k → k * p ≡ (k - 1) * p + p
 one-less zero p h = absurd (omega arith)
 one-less (suc k) p h = let same : suc k - 1 ≡ k = omega arith in suc-mul k p ∙ ap (λ j. j * p + p) (sym same)
 
--- the number of releases grows to j in the cycle in which instance j is released
-pub grows-to : (f : Figures) (j : ℕ) → 0 < f .period → 1 ≤ j → releases f (release-cycle f j) ≡ j
-grows-to f j pos h = releases-by-wait f (release-cycle f j) (f .period - 1) j (omega (arith, one-less j (f .period) h)) (λ _. omega arith)
-
-pub grows-from : (f : Figures) (j : ℕ) → 0 < f .period → 1 ≤ j → releases f (release-cycle f j - 1) ≡ j - 1
-grows-from f j pos h = releases-by-wait f (release-cycle f j - 1) 0 (j - 1) (omega arith) (λ _. pos)
+-- instance j is released in its release cycle
+pub released-there : Released-there
+released-there f pos j n some =
+    ⊎-elim
+    (λ (late : f .phase < n).
+    let q = (n - f .phase - 1) / f .period in
+    let more : releases f n ≡ 1 + q = cond-false (leb n (f .phase)) 0 (1 + q) (lt-leb n (f .phase) late) in
+    let turns = le-div-iff-mul-le {k = f .period} {x = j - 1} {y = n - f .phase - 1} pos in
+    ((λ h. omega (arith, turns .0 (omega arith))), (λ h. omega (arith, turns .1 (omega arith)))))
+    (λ (early : n ≤ f .phase).
+    let none : releases f n ≡ 0 = cond-true (leb n (f .phase)) 0 (1 + (n - f .phase - 1) / f .period) (le-leb n (f .phase) early) in
+    ((λ h. absurd (omega arith)), (λ h. absurd (omega arith))))
+    (cases-lt (f .phase) n)

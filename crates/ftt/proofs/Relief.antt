@@ -1,4 +1,4 @@
--- After a removal or a wider window no message is scheduled later. Assumes nothing.
+-- After a drop or a wider window no message is scheduled later. Assumes nothing.
 use mathlib.Core.Path.{_≡_, refl, sym, ap, ap₂, subst, subst₂, _∙_}
 use mathlib.Core.Bool.{Bool, true, false, not, _&&_, cond}
 use mathlib.Core.Logic.{_⊎_, inl, inr, ⊎-elim}
@@ -30,12 +30,12 @@ use Rattle.engine.specs.Comparison.{Lighter}
 use Rattle.engine.specs.Cycle.{Slots, Rules, used-and, release, cycle, word}
 use Rattle.engine.proofs.Lighter.{release-sound, release-lighter, scheduled-lighter, cycle-lighter}
 use Rattle.ftt.specs.Calls.{Call, Answer, Report, State, Outcome, Step, fresh, put, settle, rules-of, rehearsed, with-slots, with-window, checks, outcome, cycled, step, answer, after, run, history}
-use Rattle.ftt.specs.Calls.Call.{add, alter, remove, set-window, set-policy, next}
+use Rattle.ftt.specs.Calls.Call.{add, alter, drop, set-window, set-policy, next}
 use Rattle.ftt.specs.Calls.Answer.{made, declined, schedule}
 use Rattle.ftt.specs.Ledger.{Message, Ledger, blank, releases, instance-in, is-live, note, turn, end, end-on, widen, by-answer, enter, entered, noted-in, one-if}
-use Rattle.ftt.specs.Promise.{No-later, is-made, relieves, ledger-of, Relief-delays-none}
+use Rattle.ftt.specs.Promise.{No-later, is-made, relieves, ledger-of, Promise}
 use Rattle.ftt.proofs.Accounts.{Account, Done, Open, Closed, number-in, how-often, account-number}
-use Rattle.ftt.proofs.Keeping.{Sure, list-kept, sure-fresh, made-remove, made-window}
+use Rattle.ftt.proofs.Keeping.{Sure, list-kept, every-list-kept, sure-fresh, made-drop, made-window}
 use Rattle.ftt.proofs.Safe.{Safe, safe-next, lighter-itself, lighter-without}
 use Rattle.ftt.proofs.Ties.{Held, Tied-by, Tied, Tie}
 use Rattle.ftt.proofs.Turn.{chosen, live-turn, ready-in, turn-tied}
@@ -271,10 +271,10 @@ module _ {P : Type 0} (goes : P → Order) (rows limit : ℕ) where
         subst₂ (λ a b. Each No-later (a .messages) (b .messages)) (sym (entered-turns xs s⁺ l⁺))
         (ap (λ k. turns (rules-of goes rows limit s) k (s .slots) l) same ∙ sym (entered-turns ys s l)) h
 
-    after-remove : (r : ℕ) → is-made (answer goes rows limit s (remove r)) ≡ true
-        → Compared (remove r)
+    after-drop : (r : ℕ) → is-made (answer goes rows limit s (drop r)) ≡ true
+        → Compared (drop r)
     unfolding step outcome
-    after-remove r h = go (checks goes rows limit s (remove r)) refl h
+    after-drop r h = go (checks goes rows limit s (drop r)) refl h
       where
         s⁺ : State P
         s⁺ = with-slots goes rows limit s (put r None (s .slots))
@@ -282,10 +282,10 @@ module _ {P : Type 0} (goes : P → Order) (rows limit : ℕ) where
         st : Option Told → Step P
         st c = settle s (elim c as (λ _. Outcome P) [ Some told ↦ Err told | None ↦ Ok s⁺ ])
 
-        go : (c : Option Told) → checks goes rows limit s (remove r) ≡ c → is-made (st c .answer) ≡ true → After (end r l) (st c)
+        go : (c : Option Told) → checks goes rows limit s (drop r) ≡ c → is-made (st c .answer) ≡ true → After (end r l) (st c)
         go (Some told) is h = absurd (false≢true h)
         go None is h =
-            let sure⁺ = made-remove goes rows limit s l sure r s⁺ is refl in
+            let sure⁺ = made-drop goes rows limit s l sure r s⁺ is refl in
             compared s⁺ (end r l)
             (turns-no-later (goes (s .policy)) rows (s .window) (s .window) (le-refl (s .window)) (length xs) (s⁺ .slots) (s .slots) (end r l) l (sure⁺ .safe) (sure .safe)
             (lighter-without r (s .slots)) refl (sure⁺ .tie .tied) (sure .tie .tied) (each-itself (end-on r (l .count)) (no-later-ended r (l .count)) (l .messages)))
@@ -317,15 +317,19 @@ module _ {P : Type 0} (goes : P → Order) (rows limit : ℕ) where
         → Compared relief
     after-relief (add r f) h = absurd (false≢true h)
     after-relief (alter r f) h = absurd (false≢true h)
-    after-relief (remove r) h = after-remove r h
+    after-relief (drop r) h = after-drop r h
     after-relief (set-window w) h = let parts = and-parts (leb (s .window) w) _ h in after-window w (parts .0) (parts .1)
     after-relief (set-policy p) h = absurd (false≢true h)
     after-relief (next report) h = absurd (false≢true h)
 
-  pub relief-delays-none : ((p : P) → Laws (goes p)) → Relief-delays-none goes rows limit
+  pub promise : ((p : P) → Laws (goes p)) → Promise goes rows limit
   unfolding entered history
-  relief-delays-none laws p calls relief h xs ys same =
-      let s = run goes rows limit (fresh p) calls in
-      let l = ledger-of goes rows limit p calls in
-      subst₂ (λ a b. Each No-later (a .messages) (b .messages)) (sym (entered-more calls (relief ∷ map next xs) (fresh p) blank)) (sym (entered-more calls (map next ys) (fresh p) blank))
-      (after-relief s l (list-kept goes rows limit laws calls (fresh p) blank (sure-fresh goes rows limit p)) xs ys same relief h)
+  promise laws =
+      record {
+        kept = every-list-kept goes rows limit laws;
+        no-later = λ p calls relief h xs ys same.
+            let s = run goes rows limit (fresh p) calls in
+            let l = ledger-of goes rows limit p calls in
+            subst₂ (λ a b. Each No-later (a .messages) (b .messages)) (sym (entered-more calls (relief ∷ map next xs) (fresh p) blank)) (sym (entered-more calls (map next ys) (fresh p) blank))
+            (after-relief s l (list-kept goes rows limit laws calls (fresh p) blank (sure-fresh goes rows limit p)) xs ys same relief h);
+      }

@@ -25,7 +25,7 @@ pub data Report : Type 0 where
 pub data Call (P : Type 0) : Type 0 where
   add : (row : ℕ) → Figures → Call P
   alter : (row : ℕ) → Figures → Call P
-  remove : (row : ℕ) → Call P
+  drop : (row : ℕ) → Call P
   set-window : ℕ → Call P
   set-policy : P → Call P
   -- the next elementary cycle, and then the report on its trigger
@@ -143,16 +143,16 @@ module _ {P : Type 0} (goes : P → Order) (rows limit : ℕ) where
   unfoldable pub checks : State P → Call P → Option Told
   checks s (add r f) = first-refusal (row-exists rows r ∷ row-is-free (s .slots) r ∷ in-range f ∷ within-window (s .window) r f ∷ [])
   checks s (alter r f) = first-refusal (row-exists rows r ∷ row-is-used (s .slots) r ∷ in-range f ∷ within-window (s .window) r f ∷ [])
-  checks s (remove r) = first-refusal (row-exists rows r ∷ row-is-used (s .slots) r ∷ [])
+  checks s (drop r) = first-refusal (row-exists rows r ∷ row-is-used (s .slots) r ∷ [])
   checks s (set-window w) = first-refusal (width-in-range w ∷ cond (leb (s .window) w) None (all-within-window rows w (s .slots)) ∷ [])
   checks s (set-policy p) = None
   checks s (next report) = None
 
-  -- what a change comes to once its checks are passed; a removed row and a wider window need no rehearsal
+  -- what a change comes to once its checks are passed; a dropped row and a wider window need no rehearsal
   unfoldable pub outcome : State P → Call P → Outcome P
   outcome s (add r f) = rehearsed (with-slots s (put r (Some (new-row f)) (s .slots)))
   outcome s (alter r f) = rehearsed (with-slots s (put r (Some (new-row f)) (s .slots)))
-  outcome s (remove r) = Ok (with-slots s (put r None (s .slots)))
+  outcome s (drop r) = Ok (with-slots s (put r None (s .slots)))
   outcome s (set-window w) = elim (leb (s .window) w) [ true ↦ Ok (with-window s w) | false ↦ rehearsed (with-window s w) ]
   outcome s (set-policy p) = rehearsed (with-policy s p)
   outcome s (next report) = Ok s
@@ -171,7 +171,7 @@ module _ {P : Type 0} (goes : P → Order) (rows limit : ℕ) where
   unfoldable pub step : State P → Call P → Step P
   step s (add r f) = changed s (add r f)
   step s (alter r f) = changed s (alter r f)
-  step s (remove r) = changed s (remove r)
+  step s (drop r) = changed s (drop r)
   step s (set-window w) = changed s (set-window w)
   step s (set-policy p) = changed s (set-policy p)
   step s (next report) = cycled s report

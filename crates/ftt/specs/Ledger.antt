@@ -1,7 +1,8 @@
 -- The ledger: what an observer of calls and answers alone can tell of every message. Assumes nothing.
 use mathlib.Core.Bool.{Bool, true, false, not, _&&_, _||_, cond}
+use mathlib.Core.Logic.{_↔_}
 use mathlib.Core.List.{List, [], _∷_, _++_, map}
-use Prim.Native.Nat.{ℕ, zero, suc, _+_, _-_, _*_, _/_, _^_}
+use Prim.Native.Nat.{ℕ, zero, suc, _+_, _-_, _*_, _/_, _^_, _≤_, _<_}
 use lib.Dec.{eqb, leb, ltb}
 use Rattle.std.specs.Options.{isSome}
 use Rattle.std.specs.declared.option.Option.{Option}
@@ -11,7 +12,7 @@ use Rattle.bus.specs.Rows.{member}
 use Rattle.engine.specs.declared.row.Figures.{Figures}
 use Rattle.engine.specs.Rehearsal.{every}
 use Rattle.ftt.specs.Calls.{Call, Answer, Report}
-use Rattle.ftt.specs.Calls.Call.{add, alter, remove, set-window, set-policy, next}
+use Rattle.ftt.specs.Calls.Call.{add, alter, drop, set-window, set-policy, next}
 use Rattle.ftt.specs.Calls.Answer.{made, declined, schedule}
 
 -- a message from the moment it is added; cycles are counted from 1, and cycle c makes the count c
@@ -60,6 +61,10 @@ releases f n = cond (leb n (f .phase)) 0 (1 + (n - f .phase - 1) / f .period)
 abbrev pub release-cycle : Figures → ℕ → ℕ
 release-cycle f j = f .phase + 1 + (j - 1) * f .period
 
+-- that is the one: instance j is released in the first n cycles exactly if its cycle is one of them
+abbrev pub Released-there : Type 0
+Released-there = (f : Figures) → 0 < f .period → (j n : ℕ) → 1 ≤ j → (j ≤ releases f n) ↔ (release-cycle f j ≤ n)
+
 -- the last cycle before the deadline of instance j
 abbrev pub last-cycle : Message → ℕ → ℕ
 last-cycle m j = m .start + release-cycle (m .figures) j + (m .figures .deadline - 1)
@@ -88,7 +93,7 @@ abbrev pub end-on : (r now : ℕ) → Message → Message
 end-on r now m =
     record { row = m .row; figures = m .figures; start = m .start; ended = cond (live-on r m) (Some now) (m .ended); noted = m .noted }
 
--- a made removal; no live message on that row is a breach
+-- a made drop; no live message on that row is a breach
 abbrev pub end : ℕ → Ledger → Ledger
 end r l =
     record {
@@ -141,7 +146,7 @@ by-schedule rows l (schedule w) = turn rows w l
 abbrev pub enter : {P : Type 0} → (rows : ℕ) → Ledger → Call P → Answer → Ledger
 enter rows l (add r f) a = by-answer (begin r f l) l a
 enter rows l (alter r f) a = by-answer (begin r f (end r l)) l a
-enter rows l (remove r) a = by-answer (end r l) l a
+enter rows l (drop r) a = by-answer (end r l) l a
 enter rows l (set-window w) a = by-answer (widen w l) l a
 enter rows l (set-policy p) a = by-answer l l a
 enter rows l (next report) a = by-schedule rows l a

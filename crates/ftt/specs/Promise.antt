@@ -11,7 +11,7 @@ use Rattle.std.specs.shelf.Lists.{All, sumBy}
 use Rattle.std.specs.Vec.{Each}
 use Rattle.orders.specs.Laws.{Order, Laws}
 use Rattle.ftt.specs.Calls.{Call, Answer, Report, State, fresh, answer, run, history}
-use Rattle.ftt.specs.Calls.Call.{add, alter, remove, set-window, set-policy, next}
+use Rattle.ftt.specs.Calls.Call.{add, alter, drop, set-window, set-policy, next}
 use Rattle.ftt.specs.Calls.Answer.{made, declined, schedule}
 use Rattle.ftt.specs.Ledger.{
   Message,
@@ -68,26 +68,20 @@ module _ {P : Type 0} (goes : P → Order) (rows limit : ℕ) where
   abbrev pub ledger-of : P → List (Call P) → Ledger
   ledger-of p calls = entered rows blank (history goes rows limit (fresh p) calls)
 
-  -- a removal, or a window at least as wide as the present one, that is made
+  -- a drop, or a window at least as wide as the present one, that is made
   abbrev pub relieves : State P → Call P → Bool
   relieves s (add r f) = false
   relieves s (alter r f) = false
-  relieves s (remove r) = is-made (answer goes rows limit s (remove r))
+  relieves s (drop r) = is-made (answer goes rows limit s (drop r))
   relieves s (set-window w) = leb (s .window) w && is-made (answer goes rows limit s (set-window w))
   relieves s (set-policy p) = false
   relieves s (next report) = false
 
-  -- whatever the calls, the ledger shows what it must
-  abbrev pub Every-list-kept : Type 0
-  Every-list-kept = (p : P) (calls : List (Call P)) → Kept (ledger-of p calls)
-
-  -- after a relief no message is scheduled later than it would have been without it, however many cycles on
-  abbrev pub Relief-delays-none : Type 0
-  Relief-delays-none =
-      (p : P) (calls : List (Call P)) (relief : Call P) → relieves (run goes rows limit (fresh p) calls) relief ≡ true
-      → (xs ys : List Report) → length xs ≡ length ys
-      → Each No-later (ledger-of p (calls ++ relief ∷ map next xs) .messages) (ledger-of p (calls ++ map next ys) .messages)
-
--- the promise: for all policies that obey the laws of orders
-abbrev pub Promise : (rows limit : ℕ) → Type 1
-Promise rows limit = (P : Type 0) (goes : P → Order) → ((p : P) → Laws (goes p)) → Every-list-kept goes rows limit × Relief-delays-none goes rows limit
+  -- THE PROMISE
+  pub record Promise : Type 0 where
+    -- whatever the first policy and the calls, the ledger shows what it must
+    pub kept : (p : P) (calls : List (Call P)) → Kept (ledger-of p calls)
+    -- after a relief no message is scheduled later than it would have been without it, however many cycles on
+    pub no-later : (p : P) (calls : List (Call P)) (relief : Call P) → relieves (run goes rows limit (fresh p) calls) relief ≡ true
+        → (reports others : List Report) → length reports ≡ length others
+        → Each No-later (ledger-of p (calls ++ relief ∷ map next reports) .messages) (ledger-of p (calls ++ map next others) .messages)

@@ -3,19 +3,20 @@ use mathlib.Core.Path.{_≡_, refl, sym, ap, subst, subst₂, _∙_}
 use mathlib.Core.Bool.{Bool, true, false, _&&_, cond}
 use mathlib.Core.Logic.{_⊎_, inl, inr, ⊎-elim}
 use mathlib.Core.List.{List, [], _∷_}
-use Prim.Native.Nat.{ℕ, zero, suc, _+_, _-_, _*_, _/_, _≤_, _<_}
+use Prim.Native.Nat.{ℕ, suc, _+_, _-_, _*_, _≤_, _<_}
+use native.Mathlib.Nat.{zero-mul, zero-add, suc-mul}
 use native.Mathlib.Omega.{arith}
-use lib.Dec.{eqb, leb, ltb}
+use lib.Dec.{eqb, leb}
 use Rattle.std.specs.shelf.Lists.{All, countBy}
 use Rattle.std.proofs.shelf.Elements.{all-weaker}
 use Rattle.std.proofs.shelf.Sums.{sumBy-cons}
-use Rattle.std.proofs.shelf.Tests.{cases-bool, cases-eq, cases-lt, cond-true, cond-false, eq-eqb, ne-eqb, le-leb, and-from, and-left}
+use Rattle.std.proofs.shelf.Tests.{cases-eq, cases-lt, eq-eqb, ne-eqb, le-leb, and-from, and-left}
 use Rattle.std.proofs.shelf.Ways.{tells}
 use Rattle.engine.specs.declared.row.Figures.{Figures}
 use Rattle.engine.specs.declared.row.Row.{Row}
 use Rattle.engine.specs.Rows.{released, waits, closed, misses, sound}
 use Rattle.ftt.specs.Ledger.{releases, release-cycle}
-use Rattle.ftt.proofs.Numbers.{releases-by-wait, one-more, one-less}
+use Rattle.ftt.proofs.Numbers.{releases-by-wait, one-less}
 
 -- a message with these figures, added at the count `start`
 module _ (f : Figures) (start : ℕ) where
@@ -64,7 +65,7 @@ module _ (f : Figures) (start : ℕ) where
   account-new =
       record {
         begun = omega arith;
-        place = omega (arith, native.Mathlib.Nat.zero-mul (f .period));
+        place = omega (arith, zero-mul (f .period));
         turned = λ h. absurd (omega arith);
         before = λ j h l. absurd (omega arith);
         last = inr (record { idle = refl; done = λ h. absurd (omega arith) });
@@ -94,13 +95,13 @@ module _ (f : Figures) (start : ℕ) where
       apart = ne-eqb (number-in c) j (λ e. other (sym is ∙ e))
 
       often-other : how-often (c ∷ noted) j ≡ how-often noted j
-      often-other = sumBy-cons (λ x. cond (eqb (number-in x) j) 1 0) c noted ∙ ap (λ b. cond b 1 0 + how-often noted j) apart ∙ native.Mathlib.Nat.zero-add (how-often noted j)
+      often-other = sumBy-cons (λ x. cond (eqb (number-in x) j) 1 0) c noted ∙ ap (λ b. cond b 1 0 + how-often noted j) apart ∙ zero-add (how-often noted j)
 
       in-time-other : how-often-in-time (c ∷ noted) j ≡ how-often-in-time noted j
       in-time-other =
           sumBy-cons (λ x. cond (eqb (number-in x) j && leb x (due j)) 1 0) c noted
           ∙ ap (λ b. cond b 1 0 + how-often-in-time noted j) (and-left (eqb (number-in c) j) (leb c (due j)) apart)
-          ∙ native.Mathlib.Nat.zero-add (how-often-in-time noted j)
+          ∙ zero-add (how-often-in-time noted j)
 
       done-other : Done noted j → Done (c ∷ noted) j
       done-other d = record { once = often-other ∙ d .once; in-time = in-time-other ∙ d .in-time }
@@ -142,7 +143,7 @@ module _ (f : Figures) (start : ℕ) where
 
     number-released : Account noted now 0 left k → number-in (now + 1) ≡ suc k
     number-released a =
-        releases-by-wait f (now + 1 - start) (f .period - 1) (suc k) (omega (arith, a .begun, a .place, one-more k (f .period))) (λ _. omega arith)
+        releases-by-wait f (now + 1 - start) (f .period - 1) (suc k) (omega (arith, a .begun, a .place, suc-mul k (f .period))) (λ _. omega arith)
 
     due-released : Account noted now 0 left k → due (suc k) ≡ now + f .deadline
     due-released a =
@@ -156,7 +157,7 @@ module _ (f : Figures) (start : ℕ) where
         let c : ℕ = now + 1 in
         record {
           begun = omega (arith, a .begun);
-          place = omega (arith, a .place, one-more k (f .period));
+          place = omega (arith, a .place, suc-mul k (f .period));
           turned = λ _. omega arith;
           before = λ j h l. done-other noted c (suc k) is j (λ e. omega arith) (before-more a j h l);
           last = inr (record { idle = refl; done = λ _. first-done noted c (suc k) is (omega (arith, due-released a)) (a .later (suc k) (omega arith)) });
@@ -168,7 +169,7 @@ module _ (f : Figures) (start : ℕ) where
     released-passed a not-last =
         record {
           begun = omega (arith, a .begun);
-          place = omega (arith, a .place, one-more k (f .period));
+          place = omega (arith, a .place, suc-mul k (f .period));
           turned = λ _. omega arith;
           before = before-more a;
           last = inl (record { some = omega arith; waits = omega arith; never = a .later (suc k) (omega arith); ahead = omega (arith, due-released a) });

@@ -3,14 +3,12 @@ use mathlib.Core.Path.{_≡_, refl}
 use mathlib.Core.Bool.{Bool, true, false}
 use mathlib.Core.List.{List, [], _∷_, map}
 use Prim.Native.Nat.{ℕ, zero, suc, _+_}
-use Rattle.std.specs.declared.option.Option.{Option}
-use Rattle.std.specs.declared.option.Option.the-variants.{Some, None}
-use Rattle.bus.specs.Refusals.{Told, numbered}
+use Rattle.bus.specs.Refusals.{numbered}
 use Rattle.orders.specs.ByKey.{rate-monotonic}
 use Rattle.orders.specs.Laws.{Order}
 use Rattle.engine.specs.declared.row.Figures.{Figures}
-use Rattle.ftt.specs.Calls.{Call, Answer, Report, fresh, rehearsed, checks, outcome, cycled, step, history}
-use Rattle.ftt.specs.Calls.Call.{add, alter, drop, set-window, set-policy, next}
+use Rattle.ftt.specs.Calls.{Call, Answer, fresh, rehearsed, checks, outcome, step, history}
+use Rattle.ftt.specs.Calls.Call.{add, alter, drop, set-window, next}
 use Rattle.ftt.specs.Calls.Answer.{made, declined, schedule}
 use Rattle.ftt.specs.Calls.Report.{sent, lost}
 use Rattle.ftt.specs.Ledger.{Message, Ledger, blank, entered, released, is-scheduled, is-waiting, is-withdrawn, one-if}
@@ -70,11 +68,11 @@ good =
 
 good-answers : answers (asked good)
     ≡ made ∷ made ∷ made ∷ declined (numbered 7 (2 ∷ 1 ∷ [])) ∷ schedule 1 ∷ schedule 2 ∷ schedule 1 ∷ made ∷ schedule 1 ∷ made ∷ schedule 0 ∷ []
-unfolding history step checks outcome rehearsed cycled lowest waiters load cycle late late-row word every first-from round lead-in settled stretch rounds verdict word-of
+unfolding history step checks outcome rehearsed lowest waiters load cycle late late-row word every first-from round lead-in settled stretch rounds verdict word-of
 good-answers = refl
 
 good-ledger : shown (asked good) ≡ (false, (1 ∷ []) ∷ (1 ∷ []) ∷ (1 ∷ 1 ∷ []) ∷ [])
-unfolding history step checks outcome rehearsed cycled lowest waiters load cycle late late-row word every first-from round lead-in settled stretch rounds verdict word-of entered fates fates-to
+unfolding history step checks outcome rehearsed lowest waiters load cycle late late-row word every first-from round lead-in settled stretch rounds verdict word-of entered fates fates-to
 good-ledger = refl
 
 -- what the checks decline, in their order
@@ -108,7 +106,7 @@ declined-answers : answers (asked declined-calls)
     ∷ made
     ∷ declined (numbered 2 [])
     ∷ []
-unfolding history step checks outcome rehearsed cycled lowest waiters load cycle late late-row word every first-from round lead-in settled stretch rounds verdict word-of
+unfolding history step checks outcome rehearsed lowest waiters load cycle late late-row word every first-from round lead-in settled stretch rounds verdict word-of
 declined-answers = refl
 
 -- BAD HISTORIES, of no master that keeps the promise.

@@ -1,19 +1,18 @@
 -- From the account of a message to the fates of its instances. Assumes nothing.
-use mathlib.Core.Path.{_≡_, refl, sym, ap, subst, _∙_}
-use mathlib.Core.Bool.{Bool, true, false, not, _&&_, cond}
+use mathlib.Core.Path.{_≡_, refl, sym, ap, subst}
+use mathlib.Core.Bool.{Bool, true, false, not, _&&_}
 use mathlib.Core.Logic.{_⊎_, inl, inr, ⊎-elim}
-use mathlib.Core.List.{List, [], _∷_}
-use Prim.Native.Nat.{ℕ, zero, suc, _+_, _-_, _*_, _/_, _≤_, _<_}
+use Prim.Native.Nat.{ℕ, zero, suc, _+_, _≤_, _<_}
 use native.Mathlib.Omega.{arith}
-use lib.Dec.{eqb, leb, ltb}
+use lib.Dec.{eqb, ltb}
 use Rattle.std.specs.Options.{isSome}
 use Rattle.std.specs.declared.option.Option.{Option}
 use Rattle.std.specs.declared.option.Option.the-variants.{Some, None}
-use Rattle.std.proofs.shelf.Tests.{cases-bool, cases-eq, cases-lt}
+use Rattle.std.proofs.shelf.Tests.{cases-eq}
 use Rattle.std.proofs.shelf.Ways.{tells}
-use Rattle.ftt.specs.Ledger.{Message, Ledger, times, times-in-time, last-cycle, is-live, is-scheduled, is-waiting, is-withdrawn, ended-before, lived-to, released, one-if, how-many}
+use Rattle.ftt.specs.Ledger.{Message, Ledger, times, times-in-time, last-cycle, is-scheduled, is-waiting, is-withdrawn, ended-before, lived-to, released, one-if, how-many}
 use Rattle.ftt.specs.Promise.{Accounted}
-use Rattle.ftt.proofs.Accounts.{Account, Done, Open, Closed, due, account-number}
+use Rattle.ftt.proofs.Accounts.{Account, Done, Open, Closed, account-number}
 
 -- SUMS over the instances
 

@@ -1,17 +1,15 @@
 -- Every call keeps the ledger whole, and so does every list of calls. Assumes nothing.
-use mathlib.Core.Path.{_≡_, refl, sym, ap, subst, fun-ext, _∙_}
-use mathlib.Core.Bool.{Bool, true, false, not, _&&_, _||_, cond}
-use mathlib.Core.Logic.{_⊎_, inl, inr, ⊎-elim}
+use mathlib.Core.Path.{_≡_, refl, subst, fun-ext}
+use mathlib.Core.Bool.{Bool, true, false, not, _||_, cond}
 use mathlib.Core.List.{List, [], _∷_}
-use Prim.Native.Nat.{ℕ, zero, suc, _+_, _-_, _≤_, _<_}
+use Prim.Native.Nat.{ℕ, _<_}
 use native.Mathlib.Omega.{arith}
 use lib.Dec.{eqb, leb, ltb}
 use Rattle.std.specs.declared.option.Option.{Option}
 use Rattle.std.specs.declared.option.Option.the-variants.{Some, None}
-use Rattle.std.specs.declared.result.Result.{Result}
 use Rattle.std.specs.declared.result.Result.the-variants.{Ok, Err}
 use Rattle.std.proofs.shelf.Elements.{all-weaker}
-use Rattle.std.proofs.shelf.Tests.{leb-true, leb-false, not-false}
+use Rattle.std.proofs.shelf.Tests.{true≢false, leb-true, leb-false, not-false}
 use Rattle.std.proofs.shelf.Ways.{tells}
 use Rattle.bus.specs.Refusals.{Told, numbered}
 use Rattle.orders.specs.Laws.{Order, Laws}
@@ -19,50 +17,20 @@ use Rattle.engine.specs.declared.row.Figures.{Figures}
 use Rattle.engine.specs.declared.row.Row.{Row}
 use Rattle.engine.specs.Rows.{sound}
 use Rattle.engine.specs.Comparison.{Sound, Sound-slot}
-use Rattle.engine.specs.Cycle.{Slots, Rules, first-of}
+use Rattle.engine.specs.Cycle.{Slots, first-of}
 use Rattle.engine.proofs.Rehearsed.{Within}
-use Rattle.ftt.specs.Calls.{
-  Call,
-  Answer,
-  Report,
-  State,
-  Outcome,
-  fresh,
-  is-used,
-  new-row,
-  put,
-  refused-if,
-  first-refusal,
-  in-range,
-  settle,
-  rules-of,
-  rehearsed,
-  with-slots,
-  with-window,
-  with-policy,
-  checks,
-  outcome,
-  cycled,
-  step,
-  answer,
-  after,
-  run,
-  history,
-}
+use Rattle.ftt.specs.Calls.{Call, State, Outcome, fresh, is-used, new-row, put, refused-if, in-range, settle, rules-of, rehearsed, with-slots, with-window, with-policy, checks, outcome, step, answer, after, run, history}
 use Rattle.ftt.specs.Calls.Call.{add, alter, drop, set-window, set-policy, next}
-use Rattle.ftt.specs.Calls.Answer.{made, declined, schedule}
-use Rattle.ftt.specs.Ledger.{Message, Ledger, blank, begin, end, widen, by-answer, enter, entered}
+use Rattle.ftt.specs.Calls.Answer.{made, declined}
+use Rattle.ftt.specs.Ledger.{Ledger, blank, begin, end, widen, by-answer, enter, entered}
 use Rattle.ftt.specs.Promise.{Kept, ledger-of}
 use Rattle.ftt.proofs.Safe.{Safe, safe-empty, safe-next, safe-without, safe-wider, put-slots, put-within, rehearsed-safe, err-is-ok, same-ok}
-use Rattle.ftt.proofs.Ties.{Tie, accounted-when-tied, begin-tie, end-tie}
+use Rattle.ftt.proofs.Ties.{Tie, accounted-when-tied, some-is-none, put-same, begin-tie, end-tie}
 use Rattle.ftt.proofs.Turn.{turn-tie}
 
 -- CHECKS that are passed
 
-some-is-none : {X : Type 0} {x : X} → Some x ≡ None → ⊥
-some-is-none e = let z : _≡_ {A = ℕ} 0 1 = cc in omega arith
-
-pub both-passed : {X : Type 0} (a b : Option X) → first-of a b ≡ None → (a ≡ None) × (b ≡ None)
+both-passed : {X : Type 0} (a b : Option X) → first-of a b ≡ None → (a ≡ None) × (b ≡ None)
 both-passed None b e = (refl, e)
 both-passed (Some x) b e = absurd (some-is-none e)
 
@@ -72,7 +40,7 @@ passed false told e = refl
 
 empty-when-unused : (a : Option Row) → is-used a ≡ false → a ≡ None
 empty-when-unused None e = refl
-empty-when-unused (Some x) e = absurd (Rattle.std.proofs.shelf.Tests.true≢false e)
+empty-when-unused (Some x) e = absurd (true≢false e)
 
 -- a new row whose figures are in range is sound
 new-sound : (f : Figures) → in-range f ≡ None → sound (new-row f) ≡ true
@@ -144,11 +112,10 @@ module _ {P : Type 0} (goes : P → Order) (rows limit : ℕ) where
         let c = both-passed (in-range f) _ (b .1) in
         let low : r < rows = leb-false rows r (passed _ _ (a .0)) in
         let used : is-used (t r) ≡ true = not-false _ (passed _ _ (b .0)) in
-        let emptied : put r None t r ≡ None = Rattle.std.proofs.shelf.Tests.cond-true (eqb r r) None (t r) (Rattle.std.proofs.shelf.Tests.eq-eqb r r refl) in
         won (with-slots goes rows limit s (put r (Some (new-row f)) t)) s′ (begin r f (end r l))
         (put-within rows r (Some (new-row f)) t low (sure .safe .within))
         (put-slots Sound-slot r (Some (new-row f)) t (new-sound f (c .0)) (sure .safe .sound))
-        (subst (λ u. Tie u (begin r f (end r l))) (put-twice r (Some (new-row f)) None t) (begin-tie (put r None t) (end r l) r f emptied (end-tie t l r used (sure .tie))))
+        (subst (λ u. Tie u (begin r f (end r l))) (put-twice r (Some (new-row f)) None t) (begin-tie (put r None t) (end r l) r f (put-same r None t) (end-tie t l r used (sure .tie))))
         (sure .window) e
 
     pub made-drop : (r : ℕ) (s′ : State P) → checks goes rows limit s (drop r) ≡ None → outcome goes rows limit s (drop r) ≡ Ok s′ → Sure s′ (end r l)
@@ -185,7 +152,7 @@ module _ {P : Type 0} (goes : P → Order) (rows limit : ℕ) where
     made-policy p s′ e = won (with-policy goes rows limit s p) s′ l (sure .safe .within) (sure .safe .sound) (sure .tie) (sure .window) e
 
     pub call-kept : ((p : P) → Laws (goes p)) → (call : Call P) → Sure (after goes rows limit s call) (enter rows l call (answer goes rows limit s call))
-    unfolding step cycled
+    unfolding step
     call-kept laws (add r f) =
         by-outcome s l (begin r f l) _ sure (λ s′ e. let c = checked (checks goes rows limit s (add r f)) _ s′ e in made-add r f s′ (c .0) (c .1))
     call-kept laws (alter r f) =

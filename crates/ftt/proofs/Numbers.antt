@@ -1,6 +1,5 @@
 -- How many instances a message has released, by the wait for the next one. Assumes nothing.
-use mathlib.Core.Path.{_≡_, refl, sym, ap, _∙_}
-use mathlib.Core.Bool.{cond}
+use mathlib.Core.Path.{_≡_, sym, ap, _∙_}
 use mathlib.Core.Logic.{⊎-elim}
 use Prim.Native.Nat.{ℕ, zero, suc, _+_, _-_, _*_, _/_, _≤_, _<_}
 use native.Mathlib.Nat.{zero-mul, suc-mul, mul-add-div-right, div-eq-of-lt, le-div-iff-mul-le}
@@ -8,7 +7,7 @@ use native.Mathlib.Omega.{arith}
 use lib.Dec.{leb}
 use Rattle.std.proofs.shelf.Tests.{cases-lt, cond-true, cond-false, le-leb, lt-leb}
 use Rattle.engine.specs.declared.row.Figures.{Figures}
-use Rattle.ftt.specs.Ledger.{releases, release-cycle, Released-there}
+use Rattle.ftt.specs.Ledger.{releases, Released-there}
 
 -- whole periods and less than one more
 whole : (p q r : ℕ) → r < p → (q * p + r) / p ≡ q
@@ -31,10 +30,7 @@ releases-by-wait f n w (suc k) place turned =
     let turns : (n - f .phase - 1) / p ≡ k = ap (λ x. x / p) past ∙ whole p k (p - 1 - w) (omega arith) in
     cond-false (leb n (f .phase)) 0 (1 + (n - f .phase - 1) / p) (lt-leb n (f .phase) (omega arith)) ∙ omega arith
 
--- a period more, and a period less
-pub one-more : (k p : ℕ) → suc k * p ≡ k * p + p
-one-more k p = suc-mul k p
-
+-- a period less
 pub one-less : (k p : ℕ) → 1 ≤ k → k * p ≡ (k - 1) * p + p
 one-less zero p h = absurd (omega arith)
 one-less (suc k) p h = let same : suc k - 1 ≡ k = omega arith in suc-mul k p ∙ ap (λ j. j * p + p) (sym same)

@@ -1,5 +1,5 @@
 -- After a drop or a wider window no message is scheduled later. Assumes nothing.
-use mathlib.Core.Path.{_≡_, refl, sym, ap, ap₂, subst, subst₂, _∙_}
+use mathlib.Core.Path.{_≡_, refl, sym, ap, subst, subst₂, _∙_}
 use mathlib.Core.Bool.{Bool, true, false, not, _&&_, cond}
 use mathlib.Core.Logic.{_⊎_, inl, inr, ⊎-elim}
 use mathlib.Core.List.{List, [], _∷_, _++_, map}
@@ -11,7 +11,6 @@ use lib.ListN.{length}
 use Rattle.std.specs.Options.{isSome, mapped}
 use Rattle.std.specs.declared.option.Option.{Option}
 use Rattle.std.specs.declared.option.Option.the-variants.{Some, None}
-use Rattle.std.specs.declared.result.Result.{Result}
 use Rattle.std.specs.declared.result.Result.the-variants.{Ok, Err}
 use Rattle.std.specs.shelf.Lists.{All, countBy}
 use Rattle.std.specs.Vec.{Each}
@@ -22,23 +21,22 @@ use Rattle.std.proofs.shelf.Ways.{tells}
 use Rattle.bus.specs.Refusals.{Told}
 use Rattle.bus.specs.Rows.{member}
 use Rattle.orders.specs.Laws.{Order, Laws}
-use Rattle.engine.specs.declared.row.Figures.{Figures}
 use Rattle.engine.specs.declared.row.Row.{Row}
 use Rattle.engine.specs.Rows.{waits, closed}
 use Rattle.engine.specs.Rows.{released as row-released}
 use Rattle.engine.specs.Comparison.{Lighter}
 use Rattle.engine.specs.Cycle.{Slots, Rules, used-and, release, cycle, word}
 use Rattle.engine.proofs.Lighter.{release-sound, release-lighter, scheduled-lighter, cycle-lighter}
-use Rattle.ftt.specs.Calls.{Call, Answer, Report, State, Outcome, Step, fresh, put, settle, rules-of, rehearsed, with-slots, with-window, checks, outcome, cycled, step, answer, after, run, history}
+use Rattle.ftt.specs.Calls.{Call, Report, State, Outcome, Step, fresh, put, settle, rules-of, rehearsed, with-slots, with-window, checks, outcome, step, answer, after, run, history}
 use Rattle.ftt.specs.Calls.Call.{add, alter, drop, set-window, set-policy, next}
-use Rattle.ftt.specs.Calls.Answer.{made, declined, schedule}
-use Rattle.ftt.specs.Ledger.{Message, Ledger, blank, releases, instance-in, is-live, note, turn, end, end-on, widen, by-answer, enter, entered, noted-in, one-if}
+use Rattle.ftt.specs.Calls.Answer.{made}
+use Rattle.ftt.specs.Ledger.{Message, Ledger, blank, releases, instance-in, is-live, note, turn, end, end-on, widen, by-answer, enter, entered, one-if}
 use Rattle.ftt.specs.Promise.{No-later, is-made, relieves, ledger-of, Promise}
-use Rattle.ftt.proofs.Accounts.{Account, Done, Open, Closed, number-in, how-often, account-number}
+use Rattle.ftt.proofs.Accounts.{Account, Done, Open, Closed, number-in, account-number}
 use Rattle.ftt.proofs.Keeping.{Sure, list-kept, every-list-kept, sure-fresh, made-drop, made-window}
 use Rattle.ftt.proofs.Safe.{Safe, safe-next, lighter-itself, lighter-without}
-use Rattle.ftt.proofs.Ties.{Held, Tied-by, Tied, Tie}
-use Rattle.ftt.proofs.Turn.{chosen, live-turn, ready-in, turn-tied}
+use Rattle.ftt.proofs.Ties.{Held, Tied-by, Tied}
+use Rattle.ftt.proofs.Turn.{chosen, Live-turn, live-turn, ready-in, turn-tied}
 
 -- NOTES in a list of cycles
 
@@ -109,7 +107,7 @@ module _ (goes : Order) (n wide narrow : ℕ) (wider : narrow ≤ wide) where
           go (inl yes-a) = inl yes-a
           go (inr not-a) = inr (earlier (either (a .row) x (l .held) (ap (chosen other s) row ∙ yes-b)))
             where
-              l : Rattle.ftt.proofs.Turn.Live-turn one t (safe-t .within) (safe-t .sound) (safe-t .calm) now a
+              l : Live-turn one t (safe-t .within) (safe-t .sound) (safe-t .calm) now a
               l = live-turn one t (safe-t .within) (safe-t .sound) (safe-t .calm) now a held-a
 
               x : Row
@@ -165,10 +163,10 @@ module _ (goes : Order) (n wide narrow : ℕ) (wider : narrow ≤ wide) where
             held-b : Held b now (s (b .row))
             held-b = subst (λ e. Tied-by e s now b) live-b tied-b
 
-            la : Rattle.ftt.proofs.Turn.Live-turn one t (safe-t .within) (safe-t .sound) (safe-t .calm) now a
+            la : Live-turn one t (safe-t .within) (safe-t .sound) (safe-t .calm) now a
             la = live-turn one t (safe-t .within) (safe-t .sound) (safe-t .calm) now a held-a
 
-            lb : Rattle.ftt.proofs.Turn.Live-turn other s (safe-s .within) (safe-s .sound) (safe-s .calm) now b
+            lb : Live-turn other s (safe-s .within) (safe-s .sound) (safe-s .calm) now b
             lb = live-turn other s (safe-s .within) (safe-s .sound) (safe-s .calm) now b held-b
 
             is-a : noted-a ≡ chosen one t (a .row)
@@ -248,7 +246,7 @@ module _ {P : Type 0} (goes : P → Order) (rows limit : ℕ) where
 
   -- cycles alone
   entered-turns : (reports : List Report) (s : State P) (l : Ledger) → entered rows l (history goes rows limit s (map next reports)) ≡ turns (rules-of goes rows limit s) (length reports) (s .slots) l
-  unfolding entered history step cycled turns
+  unfolding entered history step turns
   entered-turns [] s l = refl
   entered-turns (x ∷ reports) s l =
       entered-turns reports (after goes rows limit s (next x)) (turn rows (word (rules-of goes rows limit s) (s .slots)) l)

@@ -1,9 +1,9 @@
 -- Tables that are never late: kept by cycles and reliefs, won by a rehearsal that settles. Assumes nothing.
-use mathlib.Core.Path.{_≡_, refl, sym, ap, subst, _∙_}
-use mathlib.Core.Bool.{Bool, true, false, cond}
-use mathlib.Core.Logic.{_⊎_, inl, inr, ⊎-elim}
-use mathlib.Core.List.{List, [], _∷_}
-use Prim.Native.Nat.{ℕ, zero, suc, _+_, _-_, _≤_, _<_}
+use mathlib.Core.Path.{_≡_, refl, ap, _∙_}
+use mathlib.Core.Bool.{true, false, cond}
+use mathlib.Core.Logic.{⊎-elim}
+use mathlib.Core.List.{[]}
+use Prim.Native.Nat.{ℕ, suc, _≤_, _<_}
 use native.Mathlib.Nat.{le-refl}
 use native.Mathlib.Omega.{arith}
 use lib.Dec.{eqb}
@@ -12,20 +12,20 @@ use Rattle.std.specs.declared.option.Option.{Option}
 use Rattle.std.specs.declared.option.Option.the-variants.{Some, None}
 use Rattle.std.specs.declared.result.Result.{Result}
 use Rattle.std.specs.declared.result.Result.the-variants.{Ok, Err}
-use Rattle.std.proofs.shelf.Tests.{cases-lt, cases-eq}
+use Rattle.std.proofs.shelf.Tests.{cases-lt}
 use Rattle.bus.specs.Refusals.{Told, numbered}
 use Rattle.orders.specs.Laws.{Order}
 use Rattle.engine.specs.declared.row.Row.{Row}
 use Rattle.engine.specs.declared.verdict.Verdict.{Verdict}
 use Rattle.engine.specs.declared.verdict.Verdict.the-variants.{Settled, Late, Unsettled}
 use Rattle.engine.specs.Rows.{released, misses}
-use Rattle.engine.specs.Comparison.{Sound-slot, Sound, Same-or-done, Lighter-slot, Lighter, Calm}
+use Rattle.engine.specs.Comparison.{Sound-slot, Sound, Lighter-slot, Lighter, Calm}
 use Rattle.engine.specs.Cycle.{Slots, Rules, used-and, release, scheduled, cycle, late, after}
 use Rattle.engine.specs.Rehearsal.{every, divided-by, round, verdict}
 use Rattle.engine.proofs.Calm.{calm-lighter}
 use Rattle.engine.proofs.Firsts.{First, first-some}
 use Rattle.engine.proofs.Lighter.{cycle-sound}
-use Rattle.engine.proofs.Rehearsed.{Within, Divided, Ready, calm-when-settled}
+use Rattle.engine.proofs.Rehearsed.{Within, Ready, calm-when-settled}
 use Rattle.engine.proofs.Tests.{every-at}
 use Rattle.engine.proofs.Turns.{after-empty}
 use Rattle.ftt.specs.Calls.{State, Outcome, put, rules-of, judged, rehearsed}

@@ -1,25 +1,24 @@
 -- The tie between a table and a ledger, and how a started and an ended message keep it. Assumes nothing.
 use mathlib.Core.Path.{_≡_, refl, sym, ap, subst, _∙_}
-use mathlib.Core.Bool.{Bool, true, false, not, _&&_, _||_, cond}
+use mathlib.Core.Bool.{Bool, true, false, not, _&&_, cond}
 use mathlib.Core.Logic.{_⊎_, inl, inr, ⊎-elim}
-use mathlib.Core.List.{List, [], _∷_, _++_, map}
-use Prim.Native.Nat.{ℕ, zero, suc, _+_, _-_, _≤_, _<_}
+use mathlib.Core.List.{[], _∷_, map}
+use Prim.Native.Nat.{ℕ, _-_, _≤_}
 use native.Mathlib.Omega.{arith}
-use lib.Dec.{eqb, leb, ltb}
+use lib.Dec.{eqb, ltb}
 use lib.ListN.{length, getD}
 use Rattle.std.specs.Options.{isSome}
 use Rattle.std.specs.declared.option.Option.{Option}
 use Rattle.std.specs.declared.option.Option.the-variants.{Some, None}
-use Rattle.std.specs.shelf.Lists.{All, sumBy, countBy}
+use Rattle.std.specs.shelf.Lists.{All, countBy}
 use Rattle.std.proofs.shelf.Elements.{all-weaker, all-map}
 use Rattle.std.proofs.shelf.Sums.{sumBy-cons}
-use Rattle.std.proofs.shelf.Tests.{cases-bool, cases-eq, cond-true, cond-false, eq-eqb, ne-eqb, eqb-true, or-from}
-use Rattle.std.proofs.shelf.Ways.{tells}
+use Rattle.std.proofs.shelf.Tests.{cases-bool, cases-eq, cond-true, cond-false, eq-eqb, ne-eqb, or-from}
 use Rattle.engine.specs.declared.row.Figures.{Figures}
 use Rattle.engine.specs.declared.row.Row.{Row}
-use Rattle.engine.specs.Cycle.{Slots, used-and}
+use Rattle.engine.specs.Cycle.{Slots}
 use Rattle.ftt.specs.Calls.{is-used, new-row, put}
-use Rattle.ftt.specs.Ledger.{Message, Ledger, blank, is-live, live-on, any, begin, end, end-on, noted-in, lived-to, one-if}
+use Rattle.ftt.specs.Ledger.{Message, Ledger, live-on, any, begin, end, end-on, noted-in, lived-to, one-if}
 use Rattle.ftt.specs.Promise.{Accounted, units-in}
 use Rattle.ftt.proofs.Accounts.{Account, account-new}
 use Rattle.ftt.proofs.Fates.{accounted}
@@ -63,8 +62,12 @@ accounted-when-tied t l m h = go (m .ended) refl h
         let lived : lived-to l m ≡ c = ap (λ e. elim e as (λ _. ℕ) [ Some c ↦ c | None ↦ l .count ]) is in
         accounted l m (h .0) (h .1) (h .2) (subst (λ n. Account (m .figures) (m .start) (m .noted) n (h .0) (h .1) (h .2)) (sym lived) (h .4))
 
+-- a used slot is no empty one
+pub some-is-none : {X : Type 0} {x : X} → Some x ≡ None → ⊥
+some-is-none e = let z : _≡_ {A = ℕ} 0 1 = cc in omega arith
+
 -- one row of the table is changed
-put-same : (r : ℕ) (a : Option Row) (t : Slots) → put r a t r ≡ a
+pub put-same : (r : ℕ) (a : Option Row) (t : Slots) → put r a t r ≡ a
 put-same r a t = cond-true (eqb r r) a (t r) (eq-eqb r r refl)
 
 pub put-other : (r k : ℕ) (a : Option Row) (t : Slots) → (k ≡ r → ⊥) → put r a t k ≡ t k

@@ -1,6 +1,6 @@
 -- One cycle of a calm table keeps the tie with the ledger. Assumes nothing.
 use mathlib.Core.Path.{_≡_, refl, sym, ap, ap₂, subst, _∙_}
-use mathlib.Core.Bool.{Bool, true, false, not, _&&_, _||_, cond}
+use mathlib.Core.Bool.{Bool, true, false, not, _&&_, cond}
 use mathlib.Core.Logic.{_⊎_, inl, inr, ⊎-elim}
 use mathlib.Core.List.{List, [], _∷_, _++_, map}
 use Prim.Native.Nat.{ℕ, zero, suc, _+_, _-_, _*_, _^_, _≤_, _<_}
@@ -17,14 +17,13 @@ use Rattle.std.proofs.shelf.Counted.{length-map-counting, getD-map-counting}
 use Rattle.std.proofs.shelf.Elements.{all-weaker, all-map}
 use Rattle.std.proofs.shelf.Lists.{length-push, getD-push, getD-append-left}
 use Rattle.std.proofs.shelf.Sums.{sumBy-cons}
-use Rattle.std.proofs.shelf.Tests.{cases-bool, cases-eq, cases-lt, false≢true, cond-true, cond-false, eq-eqb, ne-eqb, eqb-true, lt-ltb, le-ltb, le-leb, or-from, or-left, or-right, and-parts, and-from, not-from-true, not-from-false}
+use Rattle.std.proofs.shelf.Tests.{cases-bool, cases-eq, cases-lt, false≢true, eq-eqb, ne-eqb, eqb-true, lt-ltb, le-leb, or-from, or-left, or-right, and-parts, and-from, not-from-false}
 use Rattle.std.proofs.shelf.Ways.{tells}
 use Rattle.bus.specs.Rows.{member, members, word-of}
 use Rattle.bus.proofs.Words.{getD-members, members-word-of, word-of-below}
 use Rattle.orders.specs.Laws.{Laws}
-use Rattle.engine.specs.declared.row.Figures.{Figures}
 use Rattle.engine.specs.declared.row.Row.{Row}
-use Rattle.engine.specs.Rows.{instance-of, waits, closed, misses, sound}
+use Rattle.engine.specs.Rows.{instance-of, waits, closed, misses}
 use Rattle.engine.specs.Rows.{released as row-released}
 use Rattle.engine.specs.Comparison.{Sound, Sound-slot, Calm}
 use Rattle.engine.specs.Cycle.{Slots, Rules, used-and, release, waiters, fits, scheduled, cycle, late, word, after}
@@ -33,11 +32,11 @@ use Rattle.engine.proofs.Lighter.{released-figures}
 use Rattle.engine.proofs.Rehearsed.{Within}
 use Rattle.engine.proofs.WindowSum.{window-kept}
 use Rattle.ftt.specs.Calls.{is-used}
-use Rattle.ftt.specs.Ledger.{Message, Ledger, is-live, live-on, ready-on, instance-in, any, word-fits, note, turn, noted-in, one-if}
+use Rattle.ftt.specs.Ledger.{Message, Ledger, is-live, live-on, ready-on, releases, instance-in, any, word-fits, note, turn, noted-in, one-if}
 use Rattle.ftt.specs.Promise.{units-in}
 use Rattle.ftt.proofs.Accounts.{Account, Turned, turned-row}
 use Rattle.ftt.proofs.Sums.{sum-like, sum-map, sum-zero, sum-plus, sum-same, all-each, every-from}
-use Rattle.ftt.proofs.Ties.{Held, Tied-by, Tied, Tie}
+use Rattle.ftt.proofs.Ties.{Held, Tied-by, Tied, Tie, some-is-none}
 
 -- THE WORD has exactly the scheduled rows
 
@@ -84,10 +83,7 @@ module _ (rules : Rules) (t : Slots) (within : Within (rules .rows) t) (fine : S
 
   inside : (r : ℕ) (x : Row) → t r ≡ Some x → r < rules .rows
   inside r x is =
-      ⊎-elim (λ (low : r < rules .rows). low) (λ (past : rules .rows ≤ r). absurd (some-none (sym is ∙ within r past))) (cases-lt r (rules .rows))
-    where
-      some-none : Some x ≡ None → ⊥
-      some-none e = let z : _≡_ {A = ℕ} 0 1 = cc in omega arith
+      ⊎-elim (λ (low : r < rules .rows). low) (λ (past : rules .rows ≤ r). absurd (some-is-none (sym is ∙ within r past))) (cases-lt r (rules .rows))
 
   abbrev w : ℕ
   w = word rules t
@@ -152,9 +148,9 @@ module _ (rules : Rules) (t : Slots) (within : Within (rules .rows) t) (fine : S
     ready-in h is =
         let l = live-turn h in
         let c : ℕ = now + 1 in
-        let InLife : ℕ → Type 0 = λ i. (m .start < i) × (i ≤ c) × (1 ≤ Rattle.ftt.specs.Ledger.releases (l .x .figures) (i - m .start)) in
+        let InLife : ℕ → Type 0 = λ i. (m .start < i) × (i ≤ c) × (1 ≤ releases (l .x .figures) (i - m .start)) in
         let life : All InLife (c ∷ m .noted) = subst (λ b. All InLife (cond b (c ∷ m .noted) (m .noted))) is (l .turned .1 .in-life) in
-        subst (λ f. 1 ≤ Rattle.ftt.specs.Ledger.releases f (c - m .start)) (sym (l .same)) (life .0 .2)
+        subst (λ f. 1 ≤ releases f (c - m .start)) (sym (l .same)) (life .0 .2)
 
     -- what it was scheduled in so far
     pub noted-by : Tied t now m → All (λ c. c ≤ now) (m .noted)

@@ -96,7 +96,7 @@ within-window w r f = refused-if (ltb w (f .duration)) (numbered 5 (r ∷ []))
 abbrev pub all-within-window : (rows window : ℕ) → Slots → Option Told
 all-within-window rows w t = mapped (λ r. numbered 5 (r ∷ [])) (lowest rows (λ r. used-and (λ row. ltb w (row .figures .duration)) (t r)))
 
--- CALLS. A change comes to the state that it makes, or to a refusal.
+-- CALLS. A call comes to the state that it makes, or to a refusal.
 
 abbrev pub Outcome : Type 0 → Type 0
 Outcome P = Result (State P) Told
@@ -139,7 +139,7 @@ module _ {P : Type 0} (goes : P → Order) (rows limit : ℕ) where
   abbrev pub with-policy : State P → P → State P
   with-policy s p = record { slots = s .slots; window = s .window; policy = p; lost = s .lost }
 
-  -- the checks of a call, in their order
+  -- the checks of a call, in their order; a window at least as wide as the present one fits every row, and a cycle is never declined
   unfoldable pub checks : State P → Call P → Option Told
   checks s (add r f) = first-refusal (row-exists rows r ∷ row-is-free (s .slots) r ∷ in-range f ∷ within-window (s .window) r f ∷ [])
   checks s (alter r f) = first-refusal (row-exists rows r ∷ row-is-used (s .slots) r ∷ in-range f ∷ within-window (s .window) r f ∷ [])
@@ -148,22 +148,20 @@ module _ {P : Type 0} (goes : P → Order) (rows limit : ℕ) where
   checks s (set-policy p) = None
   checks s (next report) = None
 
-  -- what a change comes to once its checks are passed; a dropped row and a wider window need no rehearsal
+  -- one cycle, and the report on its trigger
+  abbrev pub cycled : State P → Report → State P
+  cycled s report =
+      record { slots = cycle (rules-of s) (s .slots); window = s .window; policy = s .policy; lost = counted report (s .lost) }
+
+  -- what a call comes to once its checks are passed: a dropped row and a wider window need no rehearsal;
+  -- an altered row begins anew, and an instance of it that waited is withdrawn
   unfoldable pub outcome : State P → Call P → Outcome P
   outcome s (add r f) = rehearsed (with-slots s (put r (Some (new-row f)) (s .slots)))
   outcome s (alter r f) = rehearsed (with-slots s (put r (Some (new-row f)) (s .slots)))
   outcome s (drop r) = Ok (with-slots s (put r None (s .slots)))
   outcome s (set-window w) = elim (leb (s .window) w) [ true ↦ Ok (with-window s w) | false ↦ rehearsed (with-window s w) ]
   outcome s (set-policy p) = rehearsed (with-policy s p)
-  outcome s (next report) = Ok s
-
-  -- the schedule, one cycle, and the report
-  unfoldable pub cycled : State P → Report → Step P
-  cycled s report =
-      record {
-        answer = schedule (word (rules-of s) (s .slots));
-        state = record { slots = cycle (rules-of s) (s .slots); window = s .window; policy = s .policy; lost = counted report (s .lost) };
-      }
+  outcome s (next report) = Ok (cycled s report)
 
   abbrev pub changed : State P → Call P → Step P
   changed s call = settle s (elim (checks s call) [ Some told ↦ Err told | None ↦ outcome s call ])
@@ -174,7 +172,7 @@ module _ {P : Type 0} (goes : P → Order) (rows limit : ℕ) where
   step s (drop r) = changed s (drop r)
   step s (set-window w) = changed s (set-window w)
   step s (set-policy p) = changed s (set-policy p)
-  step s (next report) = cycled s report
+  step s (next report) = record { answer = schedule (word (rules-of s) (s .slots)); state = cycled s report }
 
   abbrev pub answer : State P → Call P → Answer
   answer s call = step s call .answer

@@ -11,7 +11,7 @@ use Rattle.std.specs.shelf.Lists.{countBy}
 use Rattle.bus.specs.Rows.{member}
 use Rattle.engine.specs.declared.row.Figures.{Figures}
 use Rattle.engine.specs.Rehearsal.{every}
-use Rattle.ftt.specs.Calls.{Call, Answer, Report}
+use Rattle.ftt.specs.Calls.{Call, Answer}
 use Rattle.ftt.specs.Calls.Call.{add, alter, drop, set-window, set-policy, next}
 use Rattle.ftt.specs.Calls.Answer.{made, declined, schedule}
 

@@ -1,7 +1,7 @@
 -- Small histories, worked out: what a good ledger shows, and how bad ones are found out. Assumes nothing.
 use mathlib.Core.Path.{_≡_, refl}
 use mathlib.Core.Bool.{Bool, true, false}
-use mathlib.Core.List.{List, [], _∷_, map}
+use mathlib.Core.List.{List, [], _∷_, _++_, map}
 use Prim.Native.Nat.{ℕ, zero, suc, _+_}
 use Rattle.bus.specs.Refusals.{numbered}
 use Rattle.orders.specs.ByKey.{rate-monotonic}
@@ -11,6 +11,7 @@ use Rattle.ftt.specs.Calls.{Call, Answer, fresh, rehearsed, checks, outcome, s
 use Rattle.ftt.specs.Calls.Call.{add, alter, drop, set-window, next}
 use Rattle.ftt.specs.Calls.Answer.{made, declined, schedule}
 use Rattle.ftt.specs.Calls.Report.{sent, lost}
+use Rattle.ftt.specs.Promise.{units-in}
 use Rattle.ftt.specs.Ledger.{Message, Ledger, blank, entered, released, is-scheduled, is-waiting, is-withdrawn, one-if}
 use Rattle.engine.specs.Cycle.{lowest, waiters, load, cycle, late, late-row, word}
 use Rattle.engine.specs.Rehearsal.{every, first-from, round, lead-in, settled, stretch, rounds, verdict}
@@ -155,3 +156,30 @@ breaches : map broken-by
     ≡ true ∷ true ∷ true ∷ true ∷ true ∷ true ∷ true ∷ true ∷ true ∷ []
 unfolding entered every
 breaches = refl
+
+-- more than the window is scheduled: six units in a window of five
+abbrev overfull : Ledger
+overfull = ledger ((set-window 5, made) ∷ (add 0 (message 3 2 2 0), made) ∷ (add 1 (message 3 2 2 0), made) ∷ told 3 ∷ [])
+
+overfull-units : units-in 1 (overfull .messages) ∷ overfull .windows ≡ 6 ∷ 5 ∷ []
+unfolding entered every
+overfull-units = refl
+
+-- A RELIEF: without row 0, row 1 goes a cycle sooner each time
+
+abbrev before : List (Call (Unit {0}))
+before = set-window 10 ∷ add 0 (message 6 2 2 0) ∷ add 1 (message 5 4 4 0) ∷ []
+
+abbrev notes : List (Call (Unit {0})) → List (ℕ × List ℕ)
+notes calls = map (λ m. (m .row, m .noted)) (ledger (asked calls) .messages)
+
+abbrev cycles : List (Call (Unit {0}))
+cycles = next sent ∷ next sent ∷ next sent ∷ next sent ∷ next sent ∷ next sent ∷ []
+
+without-relief : notes (before ++ cycles) ≡ (1, 6 ∷ 2 ∷ []) ∷ (0, 5 ∷ 3 ∷ 1 ∷ []) ∷ []
+unfolding history step checks outcome rehearsed lowest waiters load cycle late late-row word every first-from round lead-in settled stretch rounds verdict word-of entered
+without-relief = refl
+
+with-relief : notes (before ++ drop 0 ∷ cycles) ≡ (1, 5 ∷ 1 ∷ []) ∷ (0, []) ∷ []
+unfolding history step checks outcome rehearsed lowest waiters load cycle late late-row word every first-from round lead-in settled stretch rounds verdict word-of entered
+with-relief = refl

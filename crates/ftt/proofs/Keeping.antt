@@ -57,7 +57,7 @@ new-sound f e =
 put-twice : (r : ℕ) (a b : Option Row) (t : Slots) → put r a (put r b t) ≡ put r a t
 put-twice r a b t = fun-ext (λ k. elim (eqb k r) as (λ v. cond v a (cond v b (t k)) ≡ cond v a (t k)) [ true ↦ refl | false ↦ refl ])
 
-checked : {P : Type 0} (c : Option Told) (o : Outcome P) (s : State P) → elim c as (λ _. Outcome P) [ Some told ↦ Err told | None ↦ o ] ≡ Ok s → (c ≡ None) × (o ≡ Ok s)
+pub checked : {P : Type 0} (c : Option Told) (o : Outcome P) (s : State P) → elim c as (λ _. Outcome P) [ Some told ↦ Err told | None ↦ o ] ≡ Ok s → (c ≡ None) × (o ≡ Ok s)
 checked (Some told) o s e = absurd (err-is-ok e)
 checked None o s e = (refl, e)
 

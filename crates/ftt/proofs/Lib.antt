@@ -4,6 +4,7 @@ pub mod Fates
 pub mod Keeping
 pub mod Numbers
 pub mod Relief
+pub mod Rounds
 pub mod Safe
 pub mod Sums
 pub mod Ties

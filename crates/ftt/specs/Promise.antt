@@ -1,13 +1,15 @@
 -- The promise over every list of calls. Assumes nothing.
 use mathlib.Core.Path.{_≡_}
 use mathlib.Core.Bool.{Bool, true, false, _&&_, cond}
-use mathlib.Core.List.{List, _∷_, _++_, map}
+use mathlib.Core.List.{List, [], _∷_, _++_, map}
+use mathlib.Core.Logic.{_≢_}
 use Prim.Native.Nat.{ℕ, _+_, _-_, _≤_, _<_}
 use lib.Dec.{leb}
 use lib.ListN.{length, getD}
 use Rattle.std.specs.declared.option.Option.the-variants.{None}
 use Rattle.std.specs.shelf.Lists.{All, sumBy}
 use Rattle.std.specs.Vec.{Each}
+use Rattle.bus.specs.Refusals.{numbered}
 use Rattle.orders.specs.Laws.{Order}
 use Rattle.ftt.specs.Calls.{Call, Answer, Report, State, fresh, answer, run, history}
 use Rattle.ftt.specs.Calls.Call.{add, alter, drop, set-window, set-policy, next}
@@ -84,3 +86,8 @@ module _ {P : Type 0} (goes : P → Order) (rows limit : ℕ) where
     pub no-later : (p : P) (calls : List (Call P)) (relief : Call P) → relieves (run goes rows limit (fresh p) calls) relief ≡ true
         → (reports others : List Report) → length reports ≡ length others
         → Each No-later (ledger-of p (calls ++ relief ∷ map next reports) .messages) (ledger-of p (calls ++ map next others) .messages)
+
+  -- what is in the table can be rehearsed: a new policy or another window is never declined for a round that is too long
+  pub record Rounds-known : Type 0 where
+    pub policy : (p : P) (calls : List (Call P)) (q : P) → answer goes rows limit (run goes rows limit (fresh p) calls) (set-policy q) ≢ declined (numbered 6 [])
+    pub window : (p : P) (calls : List (Call P)) (w : ℕ) → answer goes rows limit (run goes rows limit (fresh p) calls) (set-window w) ≢ declined (numbered 6 [])

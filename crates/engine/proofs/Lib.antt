@@ -8,6 +8,7 @@ pub mod Multiples
 pub mod Passes
 pub mod Rehearsed
 pub mod Schedule
+pub mod Stretches
 pub mod Tests
 pub mod Turns
 pub mod Waiters

@@ -18,10 +18,13 @@ use Rattle.engine.specs.declared.verdict.Verdict.{Verdict}
 use Rattle.engine.specs.declared.verdict.Verdict.the-variants.{Settled, Late, Unsettled}
 use Rattle.engine.specs.Rows.{released, waits, misses, sound}
 use Rattle.engine.specs.Cycle.{Slots, Rules, used-and, release, scheduled, cycle, late, late-row, after}
-use Rattle.engine.specs.Comparison.{Sound-slot, Sound, Same-or-done, Lighter-slot, Lighter, Calm}
-use Rattle.engine.specs.Rehearsal.{every, divided-by, wait-of, lead-in, settled, stretch, rounds, verdict}
+use Rattle.engine.specs.Comparison.{Sound-slot, Sound, Same-or-done, Lighter-slot, Lighter, Calm, First-late}
+use Rattle.engine.specs.Known.{Same-turn, Waits-come-back}
+use Rattle.engine.specs.Rehearsal.{every, divided-by, round, wait-of, lead-in, settled, stretch, rounds, verdict}
 use Rattle.engine.proofs.Calm.{after-sound, after-add, Calm-for, calm-when-lighter, calm-before}
+use Rattle.engine.proofs.Firsts.{first-some}
 use Rattle.engine.proofs.Lighter.{cycle-sound}
+use Rattle.engine.proofs.Stretches.{begins}
 use Rattle.engine.proofs.Tests.{lowest-none, every-at}
 use Rattle.engine.proofs.Turns.{Holds, wait-after, wait-turns, wait-stays, wait-arrives, after-holds, after-empty}
 
@@ -73,14 +76,14 @@ abbrev pub Quiet : Rules → ℕ → Slots → Type 0
 Quiet rules k t = (j : ℕ) → j < k → late-row rules (after rules j t) ≡ None
 
 -- row r is the lowest that is late in the cycle j cycles on, and none is late before
-pub record First-late (rules : Rules) (t : Slots) (j r : ℕ) : Type 0 where
+pub record Late-in (rules : Rules) (t : Slots) (j r : ℕ) : Type 0 where
   pub quiet : Quiet rules j t
   pub late : late-row rules (after rules j t) ≡ Some r
 
 -- a stretch ends at its first late row, or goes on with what follows
 abbrev Stretched : Rules → (k coming : ℕ) → (Slots → Verdict) → Slots → Type 0
 Stretched rules k coming next t =
-    ((j r : ℕ) × (j < k) × First-late rules t j r × (stretch rules k coming next t ≡ Late r (coming + j)))
+    ((j r : ℕ) × (j < k) × Late-in rules t j r × (stretch rules k coming next t ≡ Late r (coming + j)))
     ⊎ (Quiet rules k t × (stretch rules k coming next t ≡ next (after rules k t)))
 
 module _ (rules : Rules) where
@@ -93,14 +96,8 @@ module _ (rules : Rules) where
   unfolding after
   after-more k t = refl
 
-  late-more : (j r : ℕ) (t : Slots) → late-row rules t ≡ None → First-late rules (cycle rules t) j r → First-late rules t (suc j) r
+  late-more : (j r : ℕ) (t : Slots) → late-row rules t ≡ None → Late-in rules (cycle rules t) j r → Late-in rules t (suc j) r
   late-more j r t now f = record { quiet = quiet-more j t now (f .quiet); late = ap (late-row rules) (after-more j t) ∙ f .late }
-
-  -- the first cycle of a stretch
-  begins : (k coming : ℕ) (next : Slots → Verdict) (t : Slots) (l : Option ℕ) → late-row rules t ≡ l
-      → stretch rules (suc k) coming next t ≡ elim l [ Some r ↦ Late r coming | None ↦ stretch rules k (coming + 1) next (cycle rules t) ]
-  unfolding stretch
-  begins k coming next t l e = ap (λ (v : Option ℕ). elim v as (λ _. Verdict) [ Some r ↦ Late r coming | None ↦ stretch rules k (coming + 1) next (cycle rules t) ]) e
 
   stretched : (k coming : ℕ) (next : Slots → Verdict) (t : Slots) → Stretched rules k coming next t
   unfolding stretch after
@@ -109,10 +106,10 @@ module _ (rules : Rules) where
     where
       go : (l : Option ℕ) → late-row rules t ≡ l → Stretched rules k (coming + 1) next (cycle rules t) → Stretched rules (suc k) coming next t
       go (Some r) e later =
-          inl (0, r, omega arith, record { quiet = λ j h. absurd (omega arith); late = e }, begins k coming next t (Some r) e ∙ ap (Late r) (sym (add-zero coming)))
+          inl (0, r, omega arith, record { quiet = λ j h. absurd (omega arith); late = e }, begins rules k coming next t (Some r) e ∙ ap (Late r) (sym (add-zero coming)))
       go None e (inl x) =
-          inl (suc (x .0), x .1, omega (arith, x .2), late-more (x .0) (x .1) t e (x .3), begins k coming next t None e ∙ x .4 ∙ ap (Late (x .1)) (add-assoc coming 1 (x .0) ∙ ap (λ m. coming + m) (one-add (x .0))))
-      go None e (inr y) = inr (quiet-more k t e (y .0), begins k coming next t None e ∙ y .1)
+          inl (suc (x .0), x .1, omega (arith, x .2), late-more (x .0) (x .1) t e (x .3), begins rules k coming next t None e ∙ x .4 ∙ ap (Late (x .1)) (add-assoc coming 1 (x .0) ∙ ap (λ m. coming + m) (one-add (x .0))))
+      go None e (inr y) = inr (quiet-more k t e (y .0), begins rules k coming next t None e ∙ y .1)
 
 -- what the rehearsal needs to know of the table: it has these rows, they are sound, and the round is a multiple of each period
 pub record Ready (n round : ℕ) (t : Slots) : Type 0 where
@@ -239,3 +236,117 @@ module _ (goes : Order) (n window round : ℕ) (some : 0 < round) where
       go (inr y) =
           calm-before goes n window (lead-in n t) t (calm-when-quiet (lead-in n t) t (ready .within) (y .0))
           (settled-rounds 4 (1 + lead-in n t) (after rules (lead-in n t) t) (ready-after rules n round (lead-in n t) t ready) (regular-lead rules n t (ready .within) (ready .sound)) (sym (y .1) ∙ e))
+
+-- a late verdict names the first late row there is
+same-late : {r s c d : ℕ} → Late r c ≡ Late s d → (r ≡ s) × (c ≡ d)
+same-late e = (cc, cc)
+
+settled-is-late : {r c : ℕ} → Settled ≡ Late r c → ⊥
+settled-is-late e = let z : _≡_ {A = ℕ} 0 1 = cc in omega arith
+
+unsettled-is-late : {r c : ℕ} → Unsettled ≡ Late r c → ⊥
+unsettled-is-late e = let z : _≡_ {A = ℕ} 0 1 = cc in omega arith
+
+module _ (rules : Rules) where
+  quiet-then : (j k : ℕ) (t : Slots) → Quiet rules j t → Quiet rules k (after rules j t) → Quiet rules (j + k) t
+  quiet-then j k t first later i h =
+      ⊎-elim
+      (λ (early : i < j). first i early)
+      (λ (past : j ≤ i).
+      let split : i ≡ j + (i - j) = omega arith in
+      ap (λ m. late-row rules (after rules m t)) split ∙ ap (late-row rules) (after-add rules j (i - j) t) ∙ later (i - j) (omega arith))
+      (cases-lt i j)
+
+  late-then : (j k r : ℕ) (t : Slots) → Quiet rules j t → Late-in rules (after rules j t) k r → Late-in rules t (j + k) r
+  late-then j k r t first later =
+      record { quiet = quiet-then j k t first (later .quiet); late = ap (late-row rules) (after-add rules j k t) ∙ later .late }
+
+  abbrev Late-from : (coming r c : ℕ) → Slots → Type 0
+  Late-from coming r c t = (j : ℕ) × (c ≡ coming + j) × Late-in rules t j r
+
+  late-rounds : (round left coming r c : ℕ) (t : Slots) → rounds rules round left coming t ≡ Late r c → Late-from coming r c t
+  unfolding rounds
+  late-rounds round zero coming r c t e = absurd (unsettled-is-late e)
+  late-rounds round (suc left) coming r c t e = go (late-rounds round left (coming + round) r c u) (stretched rules round coming next t)
+    where
+      u : Slots
+      u = after rules round t
+
+      next : Slots → Verdict
+      next v = elim (settled (rules .rows) t v) [ true ↦ Settled | false ↦ rounds rules round left (coming + round) v ]
+
+      ended : (rounds rules round left (coming + round) u ≡ Late r c → Late-from (coming + round) r c u) → Quiet rules round t → (b : Bool) → elim b [ true ↦ Settled | false ↦ rounds rules round left (coming + round) u ] ≡ Late r c → Late-from coming r c t
+      ended later quiet true f = absurd (settled-is-late f)
+      ended later quiet false f =
+          let x = later f in
+          (round + x .0, x .1 ∙ add-assoc coming round (x .0), late-then round (x .0) r t quiet (x .2))
+
+      go : (rounds rules round left (coming + round) u ≡ Late r c → Late-from (coming + round) r c u) → Stretched rules round coming next t → Late-from coming r c t
+      go later (inl x) =
+          let same = same-late (sym (x .4) ∙ e) in
+          (x .0, sym (same .1), subst (Late-in rules t (x .0)) (same .0) (x .3))
+      go later (inr y) = ended later (y .0) (settled (rules .rows) t u) (sym (y .1) ∙ e)
+
+  first-of-verdict : (round r c : ℕ) (t : Slots) → verdict rules round t ≡ Late r c → Late-from 1 r c t
+  unfolding verdict
+  first-of-verdict round r c t e = go (stretched rules lead 1 next t)
+    where
+      lead : ℕ
+      lead = lead-in (rules .rows) t
+
+      next : Slots → Verdict
+      next = rounds rules round 4 (1 + lead)
+
+      go : Stretched rules lead 1 next t → Late-from 1 r c t
+      go (inl x) =
+          let same = same-late (sym (x .4) ∙ e) in
+          (x .0, sym (same .1), subst (Late-in rules t (x .0)) (same .0) (x .3))
+      go (inr y) =
+          let x = late-rounds round 4 (1 + lead) r c (after rules lead t) (sym (y .1) ∙ e) in
+          (lead + x .0, x .1 ∙ add-assoc 1 lead (x .0), late-then lead (x .0) r t (y .0) (x .2))
+
+  pub first-late-when-late : (round r c : ℕ) (t : Slots) → verdict rules round t ≡ Late r c → First-late rules t r c
+  first-late-when-late round r c t e =
+      let x = first-of-verdict round r c t e in
+      let back : c - 1 ≡ x .0 = omega (arith, x .1) in
+      record {
+        counted = omega (arith, x .1);
+        late = ap (λ k. late-row rules (after rules k t)) back ∙ x .2 .late;
+        quiet = λ k h. x .2 .quiet k (omega arith);
+      }
+
+-- the round divides each period, so that the rehearsal's verdict can be believed
+divided-by-round : (limit n m : ℕ) (t : Slots) → Within n t → round limit n t ≡ Some m → Divided m t
+unfolding round
+divided-by-round limit n m t within e r =
+    ⊎-elim
+    (λ (inside : r < n). every-at n (λ k. divided-by (t k) m) (first-some limit 1 (λ k. every n (λ i. divided-by (t i) k)) m e .passes) r inside)
+    (λ (past : n ≤ r). ap (λ a. divided-by a m) (within r past))
+    (cases-lt r n)
+
+round-some : (limit n m : ℕ) (t : Slots) → round limit n t ≡ Some m → 0 < m
+unfolding round
+round-some limit n m t e = first-some limit 1 (λ k. every n (λ i. divided-by (t i) k)) m e .above
+
+pub calm-when-rehearsed : (goes : Order) (n window limit m : ℕ) (t : Slots) → Within n t → Sound t → round limit n t ≡ Some m
+    → verdict (record { goes = goes; window = window; rows = n }) m t ≡ Settled → Calm (record { goes = goes; window = window; rows = n }) t
+calm-when-rehearsed goes n window limit m t within st is v =
+    calm-when-settled goes n window m (round-some limit n m t is) t (record { within = within; sound = st; divided = divided-by-round limit n m t within is }) v
+
+-- a slot that goes round for a multiple of its period is at the same point again
+pub waits-back : Waits-come-back
+waits-back rules t cycles st within div r =
+    let u = after rules (lead-in (rules .rows) t) t in
+    subst (λ v. Same-turn (v r) (u r)) (sym (after-add rules (lead-in (rules .rows) t) cycles t))
+    (go u (regular-lead rules (rules .rows) t within st) (divided-after rules cycles (lead-in (rules .rows) t) t div) (u r) refl (after rules cycles u r) refl)
+  where
+    same : (x : Row) (b : Option Row) → Holds (x .figures) (x .wait) b → Same-turn b (Some x)
+    same x None h = absurd h
+    same x (Some y) h = h
+
+    go : (u : Slots) → Regular u → Divided cycles u → (a : Option Row) → u r ≡ a → (b : Option Row) → after rules cycles u r ≡ b → Same-turn b a
+    go u reg d None ea b eb = subst (λ v. Same-turn v None) (sym (after-empty rules cycles u r ea) ∙ eb) tt
+    go u reg d (Some x) ea b eb =
+        same x b
+        (subst₂ (Holds (x .figures)) (turned (x .figures .period) cycles (x .wait) (subst Regular-slot ea (reg r)) (subst (λ a. divided-by a cycles ≡ true) ea (d r))) eb
+        (held-after rules cycles u r x ea))

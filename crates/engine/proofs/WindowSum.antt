@@ -15,7 +15,7 @@ use Rattle.orders.specs.declared.instance.Instance.{Instance}
 use Rattle.engine.specs.declared.row.Row.{Row}
 use Rattle.engine.specs.Rows.{instance-of, waits}
 use Rattle.engine.specs.Cycle.{Slots, Rules, used-and, release, waiter, waiters, load, fits, scheduled}
-use Rattle.engine.specs.Load.{units-of, units, Window-kept}
+use Rattle.engine.specs.Load.{units-of, units, scheduled-units}
 use Rattle.engine.proofs.Lighter.{load-append}
 
 -- the instance of a slot; an empty one has no duration
@@ -181,5 +181,6 @@ module _ (rules : Rules) (laws : Laws (rules .goes)) (t : Slots) where
           let inside : cond (ltb (x .0) n) (units-of (t (x .0))) 0 ≡ units-of (t (x .0)) = cond-true (ltb (x .0) n) (units-of (t (x .0))) 0 (lt-ltb (x .0) n (x .1 .inside)) in
           omega (arith, ahead-in-load (x .0) n, served-fits (x .0) (t (x .0)) (x .1 .is))
 
-pub window-kept : (rules : Rules) → Window-kept rules
+-- no cycle schedules more than its window, whatever the table and whichever lawful order
+pub window-kept : (rules : Rules) → Laws (rules .goes) → (t : Slots) → scheduled-units rules t ≤ rules .window
 window-kept rules laws t = served-within rules laws (release t)

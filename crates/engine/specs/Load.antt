@@ -1,10 +1,8 @@
 -- How much of the window a schedule takes. Assumes nothing.
-use mathlib.Core.Path.{_≡_}
 use mathlib.Core.Bool.{Bool, cond}
-use Prim.Native.Nat.{ℕ, zero, suc, _+_, _≤_}
+use Prim.Native.Nat.{ℕ, zero, suc, _+_}
 use Rattle.std.specs.declared.option.Option.{Option}
 use Rattle.std.specs.declared.option.Option.the-variants.{Some, None}
-use Rattle.orders.specs.Laws.{Laws}
 use Rattle.engine.specs.declared.row.Row.{Row}
 use Rattle.engine.specs.Cycle.{Slots, Rules, release, scheduled}
 
@@ -17,6 +15,6 @@ unfoldable pub units : (ℕ → Bool) → Slots → ℕ → ℕ
 units test t zero = 0
 units test t (suc n) = units test t n + cond (test n) (units-of (t n)) 0
 
--- no cycle schedules more than its window, whatever the table and whichever lawful order
-abbrev pub Window-kept : Rules → Type 0
-Window-kept rules = Laws (rules .goes) → (t : Slots) → units (scheduled rules (release t)) (release t) (rules .rows) ≤ rules .window
+-- the durations, added up, of what the coming cycle schedules
+abbrev pub scheduled-units : Rules → Slots → ℕ
+scheduled-units rules t = units (scheduled rules (release t)) (release t) (rules .rows)

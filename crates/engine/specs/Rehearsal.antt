@@ -2,6 +2,7 @@
 use mathlib.Core.Bool.{Bool, true, false, not, _&&_, _||_}
 use Prim.Native.Nat.{ℕ, zero, suc, _+_, _%_, max}
 use lib.Dec.{eqb, ltb}
+use Rattle.std.specs.Options.{mapped}
 use Rattle.std.specs.declared.option.Option.{Option}
 use Rattle.std.specs.declared.option.Option.the-variants.{Some, None}
 use Rattle.engine.specs.declared.row.Row.{Row}
@@ -58,3 +59,7 @@ unfoldable pub verdict : Rules → (round : ℕ) → Slots → Verdict
 verdict rules round t =
     let lead = lead-in (rules .rows) t in
     stretch rules lead 1 (rounds rules round 4 (1 + lead)) t
+
+-- a table whose round is above the limit is not rehearsed
+abbrev pub rehearsed : Rules → (limit : ℕ) → Slots → Option Verdict
+rehearsed rules limit t = mapped (λ cycles. verdict rules cycles t) (round limit (rules .rows) t)

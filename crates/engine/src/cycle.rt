@@ -4,6 +4,7 @@ ghost use Prim.Native.Nat.{ℕ, _+_, _*_, _<_, _≤_};
 ghost use lib.ListN.{getD, take};
 ghost use Rattle.std.specs.Vec.{listOf};
 ghost use Rattle.engine.specs.Cycle.{cycle, late-row, load, lowest, release, waiter, waiters, word};
+ghost use Rattle.engine.specs.Load.{scheduled-units};
 ghost use Rattle.engine.specs.Held.{slots, rules-of, Counted-in, Demands, within, closed-by, late-by, word-below};
 use crate::row::Row;
 use bus::rows::ROWS;
@@ -24,6 +25,7 @@ pub fn run_cycle<P: Policy>(rows: &mut [Option<Row>; ROWS], window: u8, policy: 
     ensures after { λ _. ⌜ slots (now (rows .exit)) ≡ cycle (rules-of (P·Policy .goes (now (policy .entry))) window) (slots (now (rows .entry))) ⌝ }
     ensures word { λ r. ⌜ r .schedule .word ≡ word (rules-of (P·Policy .goes (now (policy .entry))) window) (slots (now (rows .entry))) ⌝ }
     ensures late { λ r. ⌜ r .late ≡ late-row (rules-of (P·Policy .goes (now (policy .entry))) window) (slots (now (rows .entry))) ⌝ }
+    ensures within { λ _. ⌜ scheduled-units (rules-of (P·Policy .goes (now (policy .entry))) window) (slots (now (rows .entry))) ≤ window ⌝ }
 {
     release(rows);
     let demands = demands(rows, policy);

@@ -1,4 +1,7 @@
-// Elementary cycles of small tables, run.
+// Small tables: their cycles and their rehearsals, run.
+
+#[cfg(test)]
+mod rehearsals;
 
 #[cfg(test)]
 mod tests {

@@ -13,7 +13,7 @@ use crate::keyed::RateMonotonicPolicy;
 use crate::policy::Policy;
 
 // Orders and labels as the policy that it names.
-#[derive(Clone, Copy)]
+#[derive(Clone, Copy, PartialEq, Eq, Debug)]
 pub enum Selector {
     RateMonotonic,
     DeadlineMonotonic,

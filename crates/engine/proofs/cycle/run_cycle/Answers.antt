@@ -5,6 +5,7 @@ use Rattle.std.proofs.shelf.Lists.{getD-past}
 use Rattle.engine.specs.Cycle.{scheduled}
 use Rattle.engine.specs.Held.{slots, rules-of, within}
 use Rattle.engine.proofs.Fits.{within-is-scheduled, closed-is-cycle, word-is-schedule, lowest-is-late}
+use Rattle.engine.proofs.WindowSum.{window-kept}
 use Rattle.engine.proofs.cycle.run_cycle.Needs as need
 
 pub returns : need.returns
@@ -19,4 +20,5 @@ returns g c =
       after = closed-is-cycle rules before between by (c .release .ensures) same (c .close .ensures .after);
       word = word-is-schedule rules before between by (c .release .ensures) same (c .close .ensures .word);
       late = lowest-is-late rules before between by (c .release .ensures) same (c .close .ensures .late);
+      within = window-kept rules (g .P·Policy·met .lawful (c .args .policy .now)) before;
     }

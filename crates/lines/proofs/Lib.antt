@@ -1,0 +1,9 @@
+pub mod Scan
+pub mod Cuts
+pub mod Sizes
+pub mod Lookups
+pub mod Fits
+pub mod Order
+pub mod Walks
+pub mod Spells
+pub mod Returns

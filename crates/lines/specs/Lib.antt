@@ -1,0 +1,10 @@
+pub mod Signs
+pub mod Shapes
+pub mod Parts
+pub mod Numbers
+pub mod Names
+pub mod Forms
+pub mod Reading
+pub mod Grammar
+pub mod Spelling
+pub mod Laws

@@ -1,4 +1,7 @@
 pub mod Accounts
 pub mod Examples
 pub mod Fates
+pub mod Lowest
 pub mod Numbers
+pub mod Standing
+pub mod Steps

@@ -1,3 +1,5 @@
 pub mod Calls
+pub mod Held
 pub mod Ledger
 pub mod Promise
+pub mod Told

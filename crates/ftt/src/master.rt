@@ -5,6 +5,7 @@ ghost use lib.ListN.{length};
 use bus::rows::ROWS;
 use engine::row::Row;
 
+mod changes;
 mod checks;
 mod cycles;
 mod judge;

@@ -1,6 +1,6 @@
 // What a change would come to, with nothing changed: a change and its trial are judged alike.
 ghost use mathlib.Core.Path.{_≡_};
-ghost use Prim.Native.Nat.{ℕ, _<_};
+ghost use Prim.Native.Nat.{ℕ, _<_, _≤_};
 ghost use Rattle.std.specs.Results.{Cases};
 ghost use Rattle.std.specs.declared.option.Option.the-variants.{Some};
 ghost use Rattle.engine.specs.Cycle.{first-of};
@@ -55,7 +55,8 @@ impl<P: Policy> Master<P> {
 
     // A narrower window has to pass the rows and the rehearsal.
     pub(crate) fn judge_window(&self, window: u8) -> Result<(), Refusal>
-        ensures { λ r. ⌜ ((n : ℕ) → refusal-of r ≡ refusal-to (P·Policy .goes) 32 5040 (standing (now (self .entry)) n) (set-window window)) ⌝ }
+        ensures refusal { λ r. ⌜ ((n : ℕ) → refusal-of r ≡ refusal-to (P·Policy .goes) 32 5040 (standing (now (self .entry)) n) (set-window window)) ⌝ }
+        ensures opens { λ r. ⌜ Cases r (λ _. 1 ≤ window) (λ _. ⊥ → ⊥) ⌝ }
     {
         check_width(window)?;
         if self.window <= window {

@@ -1,6 +1,7 @@
 // What a master owes over every list of calls.
 ghost use mathlib.Core.Path.{_≡_};
 
+pub mod change;
 pub mod master;
 pub mod watch;
 

@@ -9,6 +9,7 @@ mod changes;
 mod checks;
 mod cycles;
 mod judge;
+mod questions;
 
 pub struct Master<P> {
     rows: [Option<Row>; ROWS],

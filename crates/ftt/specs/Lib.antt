@@ -1,3 +1,6 @@
 pub mod Calls
+pub mod Held
 pub mod Ledger
 pub mod Promise
+pub mod Questions
+pub mod Told

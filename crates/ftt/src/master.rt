@@ -1,0 +1,21 @@
+// The master: its table of messages, its window and its policy.
+ghost use mathlib.Core.Path.{_≡_};
+ghost use Prim.Native.Nat.{_≤_};
+ghost use lib.ListN.{length};
+use bus::rows::ROWS;
+use engine::row::Row;
+
+mod changes;
+mod checks;
+mod cycles;
+mod judge;
+mod questions;
+
+pub struct Master<P> {
+    rows: [Option<Row>; ROWS],
+    // units of a cycle that are for the scheduled messages
+    window: u8,
+    policy: P,
+    ghost long: { length rows ≡ 32 },
+    ghost open: { 1 ≤ window },
+}

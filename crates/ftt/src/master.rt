@@ -5,12 +5,14 @@ ghost use lib.ListN.{length};
 use bus::rows::ROWS;
 use engine::row::Row;
 
+mod alter;
 mod changes;
 mod checks;
 mod cycles;
 mod judge;
 mod questions;
 
+#[derive(Drop)]
 pub struct Master<P> {
     rows: [Option<Row>; ROWS],
     // units of a cycle that are for the scheduled messages

@@ -1,17 +1,18 @@
-// The watch over the trigger messages. A trigger that was handed out is owed a report, sent or lost, before anything
-// else can be asked of the master; the types see to it, since neither of them can be let go.
+// The watch over the triggers. A trigger that was handed out is owed a report, sent or lost, before anything else can
+// be asked of the master: the types see to it.
 ghost use mathlib.Core.Path.{_≡_};
 ghost use Rattle.ftt.specs.Calls.{counted};
 ghost use Rattle.ftt.specs.Calls.Report.{sent as is-sent, lost as is-lost};
 use bus::rows::RowSet;
 
 // No trigger is owed.
+#[derive(Drop)]
 pub struct IdleWatch {
     // triggers lost in a row, up to 255, where it stays
     lost: u8,
 }
 
-// The trigger of the coming elementary cycle, which is to be sent.
+// The trigger of the coming elementary cycle, which is to be sent. It cannot be let go, only reported.
 pub struct OwedTrigger {
     schedule: RowSet,
     lost: u8,
@@ -38,11 +39,6 @@ impl IdleWatch {
     {
         let IdleWatch { lost } = self;
         OwedTrigger { schedule, lost }
-    }
-
-    // The end of a master's watch.
-    pub(crate) fn end(self) {
-        let IdleWatch { lost: _ } = self;
     }
 }
 

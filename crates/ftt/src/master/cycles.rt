@@ -1,4 +1,4 @@
-// The life of a master: its start, its cycles, its end.
+// The life of a master: its start and its cycles.
 ghost use mathlib.Core.Path.{_≡_};
 ghost use Rattle.ftt.specs.Calls.{Report, answer, after, counted, fresh};
 ghost use Rattle.ftt.specs.Calls.Call.{next as next-call};
@@ -39,17 +39,5 @@ impl<P: Policy> Master<P> {
         let outcome = run_cycle(&mut rows, self.window, &self.policy);
         self.rows = rows;
         watch.owe(outcome.schedule)
-    }
-}
-
-impl<P: Drop> Master<P> {
-    // Only a master to which no trigger is owed can be put away.
-    pub fn stop(self, watch: IdleWatch) {
-        watch.end();
-        let Master {
-            rows: _,
-            window: _,
-            policy: _,
-        } = self;
     }
 }

@@ -26,7 +26,7 @@ use orders::policy::Policy;
 
 impl<P: Policy> Master<P> {
     // A new message on a row, whatever the row held.
-    fn judge_message(&self, row: u8, figures: Figures) -> Result<(), Refusal>
+    pub(crate) fn judge_message(&self, row: u8, figures: Figures) -> Result<(), Refusal>
         requires { ⌜ row < 32 ⌝ }
         ensures { λ r. ⌜ ((n : ℕ) → refusal-of r ≡ first-of (in-range figures) (first-of (within-window (now (self .entry) .window) row figures) (refused-by (rehearsed (P·Policy .goes) 32 5040 (with-slots (P·Policy .goes) 32 5040 (standing (now (self .entry)) n) (put row (Some (new-row figures)) (standing (now (self .entry)) n .slots))))))) ⌝ }
     {

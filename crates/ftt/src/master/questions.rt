@@ -61,6 +61,13 @@ impl<P: Policy> Master<P> {
 }
 
 impl<P> Master<P> {
+    // The policy in place.
+    pub fn policy(&self) -> &P
+        ensures { λ r. ⌜ now r ≡ now (self .entry) .policy ⌝ }
+    {
+        &self.policy
+    }
+
     // The figures of a used row.
     pub fn row(&self, row: u8) -> Result<Figures, Refusal>
         ensures { λ r. ⌜ answered r ≡ asked 32 (slots (now (self .entry) .rows)) row ⌝ }

@@ -7,6 +7,7 @@ pub mod Numbers
 pub mod Relief
 pub mod Rounds
 pub mod Safe
+pub mod Soundness
 pub mod Standing
 pub mod Steps
 pub mod Sums

@@ -4,6 +4,7 @@ use engine::row::Figures;
 #[derive(Drop)]
 pub enum Change<P> {
     Add { row: u8, figures: Figures },
+    Alter { row: u8, figures: Figures },
     Drop { row: u8 },
     Window { window: u8 },
     Policy { policy: P },

@@ -4,5 +4,4 @@ ghost use Rattle.ftt.specs.Ledger.{Released-there};
 // The cycle that the ledger gives for an instance's release is the one in which the number of releases grows.
 pub fn releases_grow_there()
     ensures { λ _. ⌜ Released-there ⌝ }
-{
-}
+{}

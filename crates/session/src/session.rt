@@ -101,11 +101,17 @@ impl Session {
         }
         let form = match read_line(line) {
             Ok(form) => form,
-            Err(refusal) => return Reply::Line(Answer::Refused(Fault { line: number, refusal })),
+            Err(refusal) => return Reply::Line(Answer::Refused(Fault {
+                line: number,
+                refusal,
+            })),
         };
         match self.obey(form) {
             Ok(reply) => reply,
-            Err(refusal) => Reply::Line(Answer::Refused(Fault { line: number, refusal })),
+            Err(refusal) => Reply::Line(Answer::Refused(Fault {
+                line: number,
+                refusal,
+            })),
         }
     }
 

@@ -77,7 +77,11 @@ impl Crew {
         for cycle in 0..cycles {
             let owed = master.next(watch);
             book.note(owed.schedule());
-            watch = if cycle < lost { owed.lost() } else { owed.sent() };
+            watch = if cycle < lost {
+                owed.lost()
+            } else {
+                owed.sent()
+            };
         }
         Crew {
             master,

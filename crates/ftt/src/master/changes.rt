@@ -2,7 +2,7 @@
 // meanwhile, and is made whole or not at all.
 ghost use mathlib.Core.Path.{_≡_};
 ghost use Rattle.ftt.specs.Calls.{answer, after};
-ghost use Rattle.ftt.specs.Calls.Call.{add as to-add, drop as to-drop, set-window, set-policy};
+ghost use Rattle.ftt.specs.Calls.Call.{add as to-add, alter as to-alter, drop as to-drop, set-window, set-policy};
 ghost use Rattle.ftt.specs.Held.{stands};
 ghost use Rattle.ftt.specs.Told.{told-answer};
 use crate::master::Master;
@@ -19,6 +19,16 @@ impl<P: Policy> Master<P> {
         ensures after { λ _. ⌜ stands (now (self .exit)) (now (watch .entry)) ≡ after (P·Policy .goes) 32 5040 (stands (now (self .entry)) (now (watch .entry))) (to-add row figures) ⌝ }
     {
         self.judge_add(row, figures)?;
+        self.rows[usize::from(row)] = Some(new_row(figures));
+        Ok(())
+    }
+
+    // Another message in the place of the row's. An instance that waits is withdrawn.
+    pub fn alter(&mut self, watch: &IdleWatch, row: u8, figures: Figures) -> Result<(), Refusal>
+        ensures answer { λ r. ⌜ told-answer r ≡ answer (P·Policy .goes) 32 5040 (stands (now (self .entry)) (now (watch .entry))) (to-alter row figures) ⌝ }
+        ensures after { λ _. ⌜ stands (now (self .exit)) (now (watch .entry)) ≡ after (P·Policy .goes) 32 5040 (stands (now (self .entry)) (now (watch .entry))) (to-alter row figures) ⌝ }
+    {
+        self.judge_alter(row, figures)?;
         self.rows[usize::from(row)] = Some(new_row(figures));
         Ok(())
     }

@@ -5,7 +5,7 @@ ghost use Rattle.std.specs.Results.{Cases};
 ghost use Rattle.std.specs.declared.option.Option.the-variants.{Some};
 ghost use Rattle.engine.specs.Cycle.{first-of};
 ghost use Rattle.ftt.specs.Calls.{in-range, within-window, new-row, put, with-slots, rehearsed};
-ghost use Rattle.ftt.specs.Calls.Call.{add, drop, set-window, set-policy};
+ghost use Rattle.ftt.specs.Calls.Call.{add, alter, drop, set-window, set-policy};
 ghost use Rattle.ftt.specs.Held.{standing};
 ghost use Rattle.ftt.specs.Told.{refusal-of, refusal-to, refused-by};
 use crate::master::Master;
@@ -26,7 +26,7 @@ use orders::policy::Policy;
 
 impl<P: Policy> Master<P> {
     // A new message on a row, whatever the row held.
-    pub(crate) fn judge_message(&self, row: u8, figures: Figures) -> Result<(), Refusal>
+    fn judge_message(&self, row: u8, figures: Figures) -> Result<(), Refusal>
         requires { ⌜ row < 32 ⌝ }
         ensures { λ r. ⌜ ((n : ℕ) → refusal-of r ≡ first-of (in-range figures) (first-of (within-window (now (self .entry) .window) row figures) (refused-by (rehearsed (P·Policy .goes) 32 5040 (with-slots (P·Policy .goes) 32 5040 (standing (now (self .entry)) n) (put row (Some (new-row figures)) (standing (now (self .entry)) n .slots))))))) ⌝ }
     {
@@ -42,6 +42,15 @@ impl<P: Policy> Master<P> {
     {
         check_exists(row)?;
         check_free(slot(&self.rows, row))?;
+        self.judge_message(row, figures)
+    }
+
+    pub(crate) fn judge_alter(&self, row: u8, figures: Figures) -> Result<(), Refusal>
+        ensures refusal { λ r. ⌜ ((n : ℕ) → refusal-of r ≡ refusal-to (P·Policy .goes) 32 5040 (standing (now (self .entry)) n) (alter row figures)) ⌝ }
+        ensures exists { λ r. ⌜ Cases r (λ _. row < 32) (λ _. ⊥ → ⊥) ⌝ }
+    {
+        check_exists(row)?;
+        check_used(slot(&self.rows, row))?;
         self.judge_message(row, figures)
     }
 

@@ -4,15 +4,14 @@ ghost use mathlib.Core.Bool.{_||_};
 ghost use mathlib.Core.List.{[]};
 ghost use Prim.Native.Nat.{ℕ, _<_};
 ghost use lib.Dec.{eqb, ltb};
-ghost use lib.ListN.{getD, length};
+ghost use lib.ListN.{length};
 ghost use Rattle.std.specs.Orderings.{Decides};
 ghost use Rattle.std.specs.Results.{Cases};
 ghost use Rattle.bus.specs.Refusals.{answered, numbered};
-ghost use Rattle.engine.specs.Cycle.{word, after as table-after};
-ghost use Rattle.engine.specs.Held.{slots, rules-of};
+ghost use Rattle.engine.specs.Held.{slots};
 ghost use Rattle.ftt.specs.Calls.{answer, refused-if};
 ghost use Rattle.ftt.specs.Held.{standing};
-ghost use Rattle.ftt.specs.Questions.{Alike, figures-of, call-of, asked};
+ghost use Rattle.ftt.specs.Questions.{Alike, Planned, figures-of, call-of, asked};
 ghost use Rattle.ftt.specs.Told.{refusal-of, told-answer};
 use crate::change::Change;
 use crate::master::Master;
@@ -36,6 +35,7 @@ impl<P: Policy> Master<P> {
     {
         match change {
             Change::Add { row, figures } => self.judge_add(*row, *figures),
+            Change::Alter { row, figures } => self.judge_alter(*row, *figures),
             Change::Drop { row } => self.judge_drop(*row),
             Change::Window { window } => self.judge_window(*window),
             Change::Policy { policy } => self.judge_policy(policy),
@@ -45,7 +45,7 @@ impl<P: Policy> Master<P> {
     // Fills in the schedules of the next cycles, as words, if no change comes between.
     pub fn plan(&self, words: &mut [u32]) -> Result<(), Refusal>
         ensures refusal { λ r. ⌜ refusal-of r ≡ refused-if (eqb (length (now (words .entry))) 0 || ltb 256 (length (now (words .entry)))) (numbered 9 []) ⌝ }
-        ensures words { λ r. ⌜ Cases r (λ _. (k : ℕ) → k < length (now (words .exit)) → getD (now (words .exit)) k 0 ≡ word (rules-of (P·Policy .goes (now (self .entry) .policy)) (now (self .entry) .window)) (table-after (rules-of (P·Policy .goes (now (self .entry) .policy)) (now (self .entry) .window)) k (slots (now (self .entry) .rows)))) (λ _. now (words .exit) ≡ now (words .entry)) ⌝ }
+        ensures words { λ r. ⌜ Cases r (λ _. Planned (P·Policy .goes) (now (self .entry)) (now (words .exit))) (λ _. now (words .exit) ≡ now (words .entry)) ⌝ }
     {
         if words.len() == 0 || words.len() > MOST_PLANNED {
             return Err(Refusal::PlanLength);

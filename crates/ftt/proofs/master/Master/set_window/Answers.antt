@@ -17,7 +17,7 @@ returns-in-Break-judge-window g c =
     record { answer = done .0; after = done .1 }
 
 pub ghost-self : need.ghost-self
-ghost-self g c = (c .args .self .now .long, (c .in-Continue-judge-window .ensures tt .opens, tt))
+ghost-self g c = (c .args .self .now .long, (c .args .self .now .sound, (c .in-Continue-judge-window .ensures tt .opens, tt)))
 
 pub returns : need.returns
 unfolding step outcome

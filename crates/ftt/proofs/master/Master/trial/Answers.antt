@@ -10,6 +10,11 @@ unfolding step
 returns-in-Add g c =
     λ n. rw (c .in-Add .is) (changed-answer (g .P·Policy .goes) 32 5040 (standing (c .args .self .now) n) _ (c .judge-add .result) (c .judge-add .ensures .refusal n))
 
+pub returns-in-Alter : need.returns-in-Alter
+unfolding step
+returns-in-Alter g c =
+    λ n. rw (c .in-Alter .is) (changed-answer (g .P·Policy .goes) 32 5040 (standing (c .args .self .now) n) _ (c .judge-alter .result) (c .judge-alter .ensures .refusal n))
+
 pub returns-in-Drop : need.returns-in-Drop
 unfolding step
 returns-in-Drop g c =

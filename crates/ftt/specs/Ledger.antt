@@ -104,8 +104,8 @@ end r l =
       broken = l .broken || not (any (live-on r) (l .messages));
     }
 
-abbrev pub widen : ℕ → Ledger → Ledger
-widen w l = record { count = l .count; window = w; messages = l .messages; windows = l .windows; broken = l .broken }
+abbrev pub resized : ℕ → Ledger → Ledger
+resized w l = record { count = l .count; window = w; messages = l .messages; windows = l .windows; broken = l .broken }
 
 -- a live message of row r with an instance released by cycle c
 abbrev pub ready-on : (r c : ℕ) → Message → Bool
@@ -147,7 +147,7 @@ abbrev pub enter : {P : Type 0} → (rows : ℕ) → Ledger → Call P → Answe
 enter rows l (add r f) a = by-answer (begin r f l) l a
 enter rows l (alter r f) a = by-answer (begin r f (end r l)) l a
 enter rows l (drop r) a = by-answer (end r l) l a
-enter rows l (set-window w) a = by-answer (widen w l) l a
+enter rows l (set-window w) a = by-answer (resized w l) l a
 enter rows l (set-policy p) a = by-answer l l a
 enter rows l (next report) a = by-schedule rows l a
 
@@ -193,6 +193,10 @@ released l m = instance-in m (lived-to l m)
 -- one for a test that passes
 abbrev pub one-if : Bool → ℕ
 one-if b = cond b 1 0
+
+-- how many of the three fates instance j has
+abbrev pub fates : Ledger → Message → ℕ → ℕ
+fates l m j = one-if (is-scheduled m j) + one-if (is-waiting l m j) + one-if (is-withdrawn m j)
 
 -- how many of the instances 1 to n pass a test
 unfoldable pub how-many : ℕ → (ℕ → Bool) → ℕ

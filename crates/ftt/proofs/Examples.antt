@@ -179,3 +179,12 @@ without-relief = refl
 with-relief : notes (before ++ drop 0 ∷ cycles) ≡ (1, 5 ∷ 1 ∷ []) ∷ (0, []) ∷ []
 unfolding history step checks outcome rehearsed lowest waiters load cycle late late-row word every first-from round lead-in settled stretch rounds verdict word-of entered
 with-relief = refl
+
+-- WITHOUT LAWS an order keeps no window: where none goes before another, both of these are scheduled at once
+
+abbrev lawless : List (Call (Unit {0}) × Answer)
+lawless = history (λ p a b. false) 4 100 (fresh tt) (add 0 (message 200 2 2 0) ∷ add 1 (message 200 2 2 0) ∷ next sent ∷ [])
+
+lawless-units : units-in 1 (ledger lawless .messages) ∷ ledger lawless .windows ≡ 400 ∷ 255 ∷ []
+unfolding history step checks outcome rehearsed lowest waiters load cycle late late-row word every first-from round lead-in settled stretch rounds verdict word-of entered
+lawless-units = refl

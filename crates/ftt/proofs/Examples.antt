@@ -2,7 +2,7 @@
 use mathlib.Core.Path.{_≡_, refl}
 use mathlib.Core.Bool.{Bool, true, false}
 use mathlib.Core.List.{List, [], _∷_, _++_, map}
-use Prim.Native.Nat.{ℕ, zero, suc, _+_}
+use Prim.Native.Nat.{ℕ, zero, suc}
 use Rattle.bus.specs.Refusals.{numbered}
 use Rattle.orders.specs.ByKey.{rate-monotonic}
 use Rattle.orders.specs.Laws.{Order}
@@ -12,7 +12,7 @@ use Rattle.ftt.specs.Calls.Call.{add, alter, drop, set-window, next}
 use Rattle.ftt.specs.Calls.Answer.{made, declined, schedule}
 use Rattle.ftt.specs.Calls.Report.{sent, lost}
 use Rattle.ftt.specs.Promise.{units-in}
-use Rattle.ftt.specs.Ledger.{Message, Ledger, blank, entered, released, is-scheduled, is-waiting, is-withdrawn, one-if}
+use Rattle.ftt.specs.Ledger.{Message, Ledger, blank, entered, released, fates}
 use Rattle.engine.specs.Cycle.{lowest, waiters, load, cycle, late, late-row, word}
 use Rattle.engine.specs.Rehearsal.{every, first-from, round, lead-in, settled, stretch, rounds, verdict}
 use Rattle.bus.specs.Rows.{word-of}
@@ -34,22 +34,18 @@ answers (x ∷ xs) = x .1 ∷ answers xs
 abbrev ledger : List (Call (Unit {0}) × Answer) → Ledger
 ledger xs = entered 4 blank xs
 
--- how many of the three fates instance j has
-abbrev fate-count : Ledger → Message → ℕ → ℕ
-fate-count l m j = one-if (is-scheduled m j) + one-if (is-waiting l m j) + one-if (is-withdrawn m j)
-
--- the same for the instances n down to 1
+-- how many fates each of the instances n down to 1 has
 fates-to : Ledger → Message → ℕ → List ℕ
 fates-to l m zero = []
-fates-to l m (suc n) = fate-count l m (suc n) ∷ fates-to l m n
+fates-to l m (suc n) = fates l m (suc n) ∷ fates-to l m n
 
 -- and for all that each message has released, the latest message first
-fates : List Message → Ledger → List (List ℕ)
-fates [] l = []
-fates (m ∷ ms) l = fates-to l m (released l m) ∷ fates ms l
+all-fates : List Message → Ledger → List (List ℕ)
+all-fates [] l = []
+all-fates (m ∷ ms) l = fates-to l m (released l m) ∷ all-fates ms l
 
 abbrev shown : List (Call (Unit {0}) × Answer) → Bool × List (List ℕ)
-shown xs = (ledger xs .broken, fates (ledger xs .messages) (ledger xs))
+shown xs = (ledger xs .broken, all-fates (ledger xs .messages) (ledger xs))
 
 -- row 2 would be late at once; the altered row 0 begins anew, and one instance of row 1 is withdrawn
 abbrev good : List (Call (Unit {0}))
@@ -73,7 +69,7 @@ unfolding history step checks outcome rehearsed lowest waiters load cycle late l
 good-answers = refl
 
 good-ledger : shown (asked good) ≡ (false, (1 ∷ []) ∷ (1 ∷ []) ∷ (1 ∷ 1 ∷ []) ∷ [])
-unfolding history step checks outcome rehearsed lowest waiters load cycle late late-row word every first-from round lead-in settled stretch rounds verdict word-of entered fates fates-to
+unfolding history step checks outcome rehearsed lowest waiters load cycle late late-row word every first-from round lead-in settled stretch rounds verdict word-of entered all-fates fates-to
 good-ledger = refl
 
 -- what the checks decline, in their order
@@ -120,22 +116,22 @@ told w = (next sent, schedule w)
 
 -- an instance is missed
 missed : shown (added 2 1 0 ∷ told 0 ∷ told 0 ∷ told 1 ∷ []) ≡ (false, (1 ∷ 0 ∷ []) ∷ [])
-unfolding entered every fates fates-to
+unfolding entered every all-fates fates-to
 missed = refl
 
 -- scheduled after its deadline
 late-one : shown (added 3 1 0 ∷ told 0 ∷ told 1 ∷ []) ≡ (false, (0 ∷ []) ∷ [])
-unfolding entered every fates fates-to
+unfolding entered every all-fates fates-to
 late-one = refl
 
 -- scheduled twice
 twice : shown (added 3 3 0 ∷ told 1 ∷ told 1 ∷ []) ≡ (false, (0 ∷ []) ∷ [])
-unfolding entered every fates fates-to
+unfolding entered every all-fates fates-to
 twice = refl
 
 -- given up after its last cycle
 given-up-late : shown (added 3 1 0 ∷ told 0 ∷ (drop 0, made) ∷ []) ≡ (false, (0 ∷ []) ∷ [])
-unfolding entered every fates fates-to
+unfolding entered every all-fates fates-to
 given-up-late = refl
 
 abbrev broken-by : List (Call (Unit {0}) × Answer) → Bool
@@ -183,3 +179,12 @@ without-relief = refl
 with-relief : notes (before ++ drop 0 ∷ cycles) ≡ (1, 5 ∷ 1 ∷ []) ∷ (0, []) ∷ []
 unfolding history step checks outcome rehearsed lowest waiters load cycle late late-row word every first-from round lead-in settled stretch rounds verdict word-of entered
 with-relief = refl
+
+-- WITHOUT LAWS an order keeps no window: where none goes before another, both of these are scheduled at once
+
+abbrev lawless : List (Call (Unit {0}) × Answer)
+lawless = history (λ p a b. false) 4 100 (fresh tt) (add 0 (message 200 2 2 0) ∷ add 1 (message 200 2 2 0) ∷ next sent ∷ [])
+
+lawless-units : units-in 1 (ledger lawless .messages) ∷ ledger lawless .windows ≡ 400 ∷ 255 ∷ []
+unfolding history step checks outcome rehearsed lowest waiters load cycle late late-row word every first-from round lead-in settled stretch rounds verdict word-of entered
+lawless-units = refl

@@ -10,7 +10,7 @@ use Rattle.std.specs.declared.option.Option.{Option}
 use Rattle.std.specs.declared.option.Option.the-variants.{Some, None}
 use Rattle.std.proofs.shelf.Tests.{cases-eq}
 use Rattle.std.proofs.shelf.Ways.{tells}
-use Rattle.ftt.specs.Ledger.{Message, Ledger, times, times-in-time, last-cycle, is-scheduled, is-waiting, is-withdrawn, ended-before, lived-to, released, one-if, how-many}
+use Rattle.ftt.specs.Ledger.{Message, Ledger, times, times-in-time, last-cycle, is-scheduled, is-waiting, is-withdrawn, ended-before, lived-to, released, one-if, fates, how-many}
 use Rattle.ftt.specs.Promise.{Accounted}
 use Rattle.ftt.proofs.Accounts.{Account, Done, Open, Closed, account-number}
 
@@ -47,12 +47,12 @@ how-many-last (suc n) a b early last =
 pub record Fated (l : Ledger) (m : Message) (n : ℕ) : Type 0 where
   pub count : released l m ≡ n
   pub early : (j : ℕ) → 1 ≤ j → j < n → (is-scheduled m j ≡ true) × (is-waiting l m j ≡ false) × (is-withdrawn m j ≡ false)
-  pub last : 1 ≤ n → one-if (is-scheduled m n) + one-if (is-waiting l m n) + one-if (is-withdrawn m n) ≡ 1
+  pub last : 1 ≤ n → fates l m n ≡ 1
 
-one-fate : (l : Ledger) (m : Message) (n : ℕ) → Fated l m n → (j : ℕ) → 1 ≤ j → j ≤ n → one-if (is-scheduled m j) + one-if (is-waiting l m j) + one-if (is-withdrawn m j) ≡ 1
+one-fate : (l : Ledger) (m : Message) (n : ℕ) → Fated l m n → (j : ℕ) → 1 ≤ j → j ≤ n → fates l m j ≡ 1
 one-fate l m n f j h below =
     ⊎-elim
-    (λ (same : j ≡ n). subst (λ i. one-if (is-scheduled m i) + one-if (is-waiting l m i) + one-if (is-withdrawn m i) ≡ 1) (sym same) (f .last (omega arith)))
+    (λ (same : j ≡ n). subst (λ i. fates l m i ≡ 1) (sym same) (f .last (omega arith)))
     (λ (other : j ≡ n → ⊥).
     let e = f .early j h (omega arith) in
     let a : one-if (is-scheduled m j) ≡ 1 = ap one-if (e .0) in
@@ -74,13 +74,13 @@ module _ (l : Ledger) (m : Message) (wait left k : ℕ) (a : Account (m .figures
       let in-time = d .in-time in
       (grind (arith, tells), grind (arith, tells), grind (arith, tells))
 
-  open-fate : Open (m .figures) (m .start) (m .noted) (lived-to l m) left k → one-if (is-scheduled m k) + one-if (is-waiting l m k) + one-if (is-withdrawn m k) ≡ 1
+  open-fate : Open (m .figures) (m .start) (m .noted) (lived-to l m) left k → fates l m k ≡ 1
   open-fate o = open-by (m .ended) (l .count) (times m k) (times-in-time m k) (last-cycle m k) (o .never) (omega (arith, o .ahead, o .waits))
 
-  last-fate : 1 ≤ k → one-if (is-scheduled m k) + one-if (is-waiting l m k) + one-if (is-withdrawn m k) ≡ 1
+  last-fate : 1 ≤ k → fates l m k ≡ 1
   last-fate h = go (a .last)
     where
-      go : Open (m .figures) (m .start) (m .noted) (lived-to l m) left k ⊎ Closed (m .figures) (m .start) (m .noted) left k → one-if (is-scheduled m k) + one-if (is-waiting l m k) + one-if (is-withdrawn m k) ≡ 1
+      go : Open (m .figures) (m .start) (m .noted) (lived-to l m) left k ⊎ Closed (m .figures) (m .start) (m .noted) left k → fates l m k ≡ 1
       go (inl o) = open-fate o
       go (inr c) =
           let e = done-fate k (c .done h) in
@@ -102,7 +102,7 @@ module _ (l : Ledger) (m : Message) (wait left k : ℕ) (a : Account (m .figures
   accounted =
       let f = fated in
       let n = f .count in
-      let each : (j : ℕ) → 1 ≤ j → j ≤ released l m → one-if (is-scheduled m j) + one-if (is-waiting l m j) + one-if (is-withdrawn m j) ≡ 1 = λ j h low. one-fate l m k f j h (omega arith) in
+      let each : (j : ℕ) → 1 ≤ j → j ≤ released l m → fates l m j ≡ 1 = λ j h low. one-fate l m k f j h (omega arith) in
       record {
         one-fate = each;
         in-life = a .in-life;

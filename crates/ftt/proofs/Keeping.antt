@@ -22,7 +22,7 @@ use Rattle.engine.proofs.Rehearsed.{Within}
 use Rattle.ftt.specs.Calls.{Call, State, Outcome, fresh, is-used, new-row, put, refused-if, in-range, settle, rules-of, rehearsed, with-slots, with-window, with-policy, checks, outcome, step, answer, after, run, history}
 use Rattle.ftt.specs.Calls.Call.{add, alter, drop, set-window, set-policy, next}
 use Rattle.ftt.specs.Calls.Answer.{made, declined}
-use Rattle.ftt.specs.Ledger.{Ledger, blank, begin, end, widen, by-answer, enter, entered}
+use Rattle.ftt.specs.Ledger.{Ledger, blank, begin, end, resized, by-answer, enter, entered}
 use Rattle.ftt.specs.Promise.{Kept, ledger-of}
 use Rattle.ftt.proofs.Safe.{Safe, safe-empty, safe-next, safe-without, safe-wider, put-slots, put-within, rehearsed-safe, err-is-ok, same-ok}
 use Rattle.ftt.proofs.Ties.{Tie, accounted-when-tied, some-is-none, put-same, begin-tie, end-tie}
@@ -132,20 +132,20 @@ module _ {P : Type 0} (goes : P → Order) (rows limit : ℕ) where
         })
 
     -- the width of the window changes nothing else
-    widen-tie : (w : ℕ) → Tie t (widen w l)
-    widen-tie w =
+    resized-tie : (w : ℕ) → Tie t (resized w l)
+    resized-tie w =
         let tie = sure .tie in
         record { unbroken = tie .unbroken; counts = tie .counts; tied = tie .tied; long = tie .long; in-window = tie .in-window }
 
-    pub made-window : (w : ℕ) (s′ : State P) → outcome goes rows limit s (set-window w) ≡ Ok s′ → Sure s′ (widen w l)
+    pub made-window : (w : ℕ) (s′ : State P) → outcome goes rows limit s (set-window w) ≡ Ok s′ → Sure s′ (resized w l)
     unfolding outcome
     made-window w s′ e = go (leb (s .window) w) refl e
       where
-        go : (b : Bool) → leb (s .window) w ≡ b → elim b as (λ _. Outcome P) [ true ↦ Ok (with-window goes rows limit s w) | false ↦ rehearsed goes rows limit (with-window goes rows limit s w) ] ≡ Ok s′ → Sure s′ (widen w l)
+        go : (b : Bool) → leb (s .window) w ≡ b → elim b as (λ _. Outcome P) [ true ↦ Ok (with-window goes rows limit s w) | false ↦ rehearsed goes rows limit (with-window goes rows limit s w) ] ≡ Ok s′ → Sure s′ (resized w l)
         go true is e =
-            subst (λ v. Sure v (widen w l)) (same-ok e)
-            (record { safe = safe-wider (goes (s .policy)) rows (s .window) t w (leb-true (s .window) w is) (sure .safe); tie = widen-tie w; window = refl })
-        go false is e = won (with-window goes rows limit s w) s′ (widen w l) (sure .safe .within) (sure .safe .sound) (widen-tie w) refl e
+            subst (λ v. Sure v (resized w l)) (same-ok e)
+            (record { safe = safe-wider (goes (s .policy)) rows (s .window) t w (leb-true (s .window) w is) (sure .safe); tie = resized-tie w; window = refl })
+        go false is e = won (with-window goes rows limit s w) s′ (resized w l) (sure .safe .within) (sure .safe .sound) (resized-tie w) refl e
 
     made-policy : (p : P) (s′ : State P) → outcome goes rows limit s (set-policy p) ≡ Ok s′ → Sure s′ l
     unfolding outcome
@@ -160,7 +160,7 @@ module _ {P : Type 0} (goes : P → Order) (rows limit : ℕ) where
     call-kept laws (drop r) =
         by-outcome s l (end r l) _ sure (λ s′ e. let c = checked (checks goes rows limit s (drop r)) _ s′ e in made-drop r s′ (c .0) (c .1))
     call-kept laws (set-window w) =
-        by-outcome s l (widen w l) _ sure (λ s′ e. let c = checked (checks goes rows limit s (set-window w)) _ s′ e in made-window w s′ (c .1))
+        by-outcome s l (resized w l) _ sure (λ s′ e. let c = checked (checks goes rows limit s (set-window w)) _ s′ e in made-window w s′ (c .1))
     call-kept laws (set-policy p) =
         by-outcome s l l _ sure (λ s′ e. let c = checked (checks goes rows limit s (set-policy p)) _ s′ e in made-policy p s′ (c .1))
     call-kept laws (next report) =

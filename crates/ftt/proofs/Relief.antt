@@ -30,7 +30,7 @@ use Rattle.engine.proofs.Lighter.{release-sound, release-lighter, scheduled-lig
 use Rattle.ftt.specs.Calls.{Call, Report, State, Outcome, Step, fresh, put, settle, rules-of, rehearsed, with-slots, with-window, checks, outcome, step, answer, after, run, history}
 use Rattle.ftt.specs.Calls.Call.{add, alter, drop, set-window, set-policy, next}
 use Rattle.ftt.specs.Calls.Answer.{made}
-use Rattle.ftt.specs.Ledger.{Message, Ledger, blank, releases, instance-in, is-live, note, turn, end, end-on, widen, by-answer, enter, entered, one-if}
+use Rattle.ftt.specs.Ledger.{Message, Ledger, blank, releases, instance-in, is-live, note, turn, end, end-on, resized, by-answer, enter, entered, one-if}
 use Rattle.ftt.specs.Promise.{No-later, is-made, relieves, ledger-of, Promise}
 use Rattle.ftt.proofs.Accounts.{Account, Done, Open, Closed, number-in, account-number}
 use Rattle.ftt.proofs.Keeping.{Sure, list-kept, every-list-kept, sure-fresh, made-drop, made-window}
@@ -302,13 +302,13 @@ module _ {P : Type 0} (goes : P → Order) (rows limit : ℕ) where
         st : Bool → Option Told → Step P
         st b c = settle s (elim c as (λ _. Outcome P) [ Some told ↦ Err told | None ↦ o b ])
 
-        go : (b : Bool) (c : Option Told) → leb (s .window) w ≡ b → is-made (st b c .answer) ≡ true → After (widen w l) (st b c)
+        go : (b : Bool) (c : Option Told) → leb (s .window) w ≡ b → is-made (st b c .answer) ≡ true → After (resized w l) (st b c)
         go false c is h = absurd (both-ways _ is wider)
         go true (Some told) is h = absurd (false≢true h)
         go true None is h =
             let sure⁺ = made-window goes rows limit s l sure w s⁺ (ap o is) in
-            compared s⁺ (widen w l)
-            (turns-no-later (goes (s .policy)) rows w (s .window) (leb-true (s .window) w wider) (length xs) (s .slots) (s .slots) (widen w l) l (sure⁺ .safe) (sure .safe)
+            compared s⁺ (resized w l)
+            (turns-no-later (goes (s .policy)) rows w (s .window) (leb-true (s .window) w wider) (length xs) (s .slots) (s .slots) (resized w l) l (sure⁺ .safe) (sure .safe)
             (lighter-itself (s .slots)) refl (sure⁺ .tie .tied) (sure .tie .tied) (each-same (l .messages)))
 
     after-relief : (relief : Call P) → relieves goes rows limit s relief ≡ true

@@ -1,5 +1,5 @@
 -- The table of a master has a round within the limit. Assumes nothing.
-use mathlib.Core.Path.{_≡_, refl, sym, ap, subst, fun-ext, _∙_}
+use mathlib.Core.Path.{_≡_, refl, sym, ap, subst}
 use mathlib.Core.Bool.{Bool, true, false, cond}
 use mathlib.Core.Logic.{_≢_}
 use mathlib.Core.List.{List, [], _∷_}
@@ -11,7 +11,7 @@ use Rattle.std.specs.declared.option.Option.{Option}
 use Rattle.std.specs.declared.option.Option.the-variants.{Some, None}
 use Rattle.std.specs.declared.result.Result.the-variants.{Ok, Err}
 use Rattle.std.proofs.shelf.Tests.{false≢true, both-ways}
-use Rattle.bus.specs.Refusals.{Told, numbered}
+use Rattle.bus.specs.Refusals.{numbered}
 use Rattle.orders.specs.Laws.{Order}
 use Rattle.engine.specs.declared.row.Row.{Row}
 use Rattle.engine.specs.declared.verdict.Verdict.{Verdict}
@@ -23,9 +23,9 @@ use Rattle.engine.specs.Rehearsal.{every, first-from, divided-by, round, verdic
 use Rattle.engine.proofs.Firsts.{First, first-is, first-some, first-none}
 use Rattle.engine.proofs.Lighter.{released-figures}
 use Rattle.engine.proofs.Tests.{every-at}
-use Rattle.ftt.specs.Calls.{Call, Answer, State, Outcome, fresh, put, refused-if, settle, rules-of, judged, rehearsed, with-slots, with-window, with-policy, checks, outcome, step, answer, after, run}
+use Rattle.ftt.specs.Calls.{Call, State, Outcome, fresh, put, refused-if, settle, rules-of, judged, rehearsed, with-window, with-policy, checks, outcome, step, answer, after, run}
 use Rattle.ftt.specs.Calls.Call.{add, alter, drop, set-window, set-policy, next}
-use Rattle.ftt.specs.Calls.Answer.{made, declined, schedule}
+use Rattle.ftt.specs.Calls.Answer.{declined}
 use Rattle.ftt.specs.Promise.{Rounds-known}
 use Rattle.ftt.proofs.Keeping.{checked}
 use Rattle.ftt.proofs.Safe.{err-is-ok, same-ok}

@@ -48,6 +48,7 @@ pub record State (P : Type 0) : Type 0 where
 abbrev pub fresh : {P : Type 0} → P → State P
 fresh p = record { slots = λ r. None; window = 255; policy = p; lost = 0 }
 
+-- a slot that holds a message
 abbrev pub is-used : Option Row → Bool
 is-used a = used-and (λ row. true) a
 
@@ -68,12 +69,15 @@ abbrev pub first-refusal : List (Option Told) → Option Told
 first-refusal [] = None
 first-refusal (c ∷ cs) = first-of c (first-refusal cs)
 
+-- the row is one of the table's
 abbrev pub row-exists : (rows r : ℕ) → Option Told
 row-exists rows r = refused-if (leb rows r) (numbered 1 [])
 
+-- for an add: the row has no message yet
 abbrev pub row-is-free : Slots → ℕ → Option Told
 row-is-free t r = refused-if (is-used (t r)) (numbered 2 [])
 
+-- for an alteration or a drop: the row has a message
 abbrev pub row-is-used : Slots → ℕ → Option Told
 row-is-used t r = refused-if (not (is-used (t r))) (numbered 3 [])
 
@@ -86,9 +90,11 @@ in-range f =
     ∷ refused-if (eqb (f .deadline) 0 || ltb (f .period) (f .deadline)) (numbered 4 (3 ∷ []))
     ∷ [])
 
+-- a window has at least one unit
 abbrev pub width-in-range : ℕ → Option Told
 width-in-range w = refused-if (eqb w 0) (numbered 4 (4 ∷ []))
 
+-- the message of row r fits the window
 abbrev pub within-window : (window r : ℕ) → Figures → Option Told
 within-window w r f = refused-if (ltb w (f .duration)) (numbered 5 (r ∷ []))
 
@@ -118,9 +124,11 @@ counted lost n = min 255 (n + 1)
 
 -- by the order of each policy, the number of rows, and the longest round that is rehearsed
 module _ {P : Type 0} (goes : P → Order) (rows limit : ℕ) where
+  -- the rules that a state's cycles go by
   abbrev pub rules-of : State P → Rules
   rules-of s = record { goes = goes (s .policy); window = s .window; rows = rows }
 
+  -- what a verdict makes of a changed state
   abbrev pub judged : State P → Verdict → Outcome P
   judged s Settled = Ok s
   judged s (Late row cycle) = Err (numbered 7 (row ∷ cycle ∷ []))
@@ -139,7 +147,7 @@ module _ {P : Type 0} (goes : P → Order) (rows limit : ℕ) where
   abbrev pub with-policy : State P → P → State P
   with-policy s p = record { slots = s .slots; window = s .window; policy = p; lost = s .lost }
 
-  -- the checks of a call, in their order; a window at least as wide as the present one fits every row, and a cycle is never declined
+  -- the checks of a call, in their order; a window at least as wide as the present one is not held against the rows, and a cycle is never declined
   unfoldable pub checks : State P → Call P → Option Told
   checks s (add r f) = first-refusal (row-exists rows r ∷ row-is-free (s .slots) r ∷ in-range f ∷ within-window (s .window) r f ∷ [])
   checks s (alter r f) = first-refusal (row-exists rows r ∷ row-is-used (s .slots) r ∷ in-range f ∷ within-window (s .window) r f ∷ [])
@@ -163,9 +171,11 @@ module _ {P : Type 0} (goes : P → Order) (rows limit : ℕ) where
   outcome s (set-policy p) = rehearsed (with-policy s p)
   outcome s (next report) = Ok (cycled s report)
 
+  -- a change is made if no check refuses it, and then if it comes to a state
   abbrev pub changed : State P → Call P → Step P
   changed s call = settle s (elim (checks s call) [ Some told ↦ Err told | None ↦ outcome s call ])
 
+  -- every call: a change answers whether it was made, a cycle its schedule
   unfoldable pub step : State P → Call P → Step P
   step s (add r f) = changed s (add r f)
   step s (alter r f) = changed s (alter r f)

@@ -37,6 +37,7 @@ pub record Ledger : Type 0 where
   -- an answer did not fit the account
   pub broken : Bool
 
+-- the ledger of a master that was just made
 abbrev pub blank : Ledger
 blank = record { count = 0; window = 255; messages = []; windows = []; broken = false }
 
@@ -75,6 +76,7 @@ instance-in m c = releases (m .figures) (c - m .start)
 
 -- ENTRIES. How each call and its answer change the ledger.
 
+-- an answer that does not fit
 abbrev pub breach : Ledger → Ledger
 breach l = record { count = l .count; window = l .window; messages = l .messages; windows = l .windows; broken = true }
 
@@ -89,6 +91,7 @@ begin r f l =
       broken = l .broken || any (live-on r) (l .messages);
     }
 
+-- a live message of row r ends now
 abbrev pub end-on : (r now : ℕ) → Message → Message
 end-on r now m =
     record { row = m .row; figures = m .figures; start = m .start; ended = cond (live-on r m) (Some now) (m .ended); noted = m .noted }
@@ -104,8 +107,9 @@ end r l =
       broken = l .broken || not (any (live-on r) (l .messages));
     }
 
-abbrev pub widen : ℕ → Ledger → Ledger
-widen w l = record { count = l .count; window = w; messages = l .messages; windows = l .windows; broken = l .broken }
+-- a made window
+abbrev pub resized : ℕ → Ledger → Ledger
+resized w l = record { count = l .count; window = w; messages = l .messages; windows = l .windows; broken = l .broken }
 
 -- a live message of row r with an instance released by cycle c
 abbrev pub ready-on : (r c : ℕ) → Message → Bool
@@ -115,6 +119,7 @@ ready-on r c m = live-on r m && leb 1 (instance-in m c)
 abbrev pub word-fits : (rows word c : ℕ) → List Message → Bool
 word-fits rows w c ms = ltb w (2 ^ rows) && every rows (λ r. not (member w r) || any (ready-on r c) ms)
 
+-- a live message whose row is in the word is noted in cycle c
 abbrev pub note : (word c : ℕ) → Message → Message
 note w c m =
     record { row = m .row; figures = m .figures; start = m .start; ended = m .ended; noted = cond (is-live m && member w (m .row)) (c ∷ m .noted) (m .noted) }
@@ -143,11 +148,12 @@ by-schedule rows l made = breach l
 by-schedule rows l (declined told) = breach l
 by-schedule rows l (schedule w) = turn rows w l
 
+-- one call with its answer
 abbrev pub enter : {P : Type 0} → (rows : ℕ) → Ledger → Call P → Answer → Ledger
 enter rows l (add r f) a = by-answer (begin r f l) l a
 enter rows l (alter r f) a = by-answer (begin r f (end r l)) l a
 enter rows l (drop r) a = by-answer (end r l) l a
-enter rows l (set-window w) a = by-answer (widen w l) l a
+enter rows l (set-window w) a = by-answer (resized w l) l a
 enter rows l (set-policy p) a = by-answer l l a
 enter rows l (next report) a = by-schedule rows l a
 
@@ -174,6 +180,7 @@ is-scheduled m j = eqb (times m j) 1 && eqb (times-in-time m j) 1
 abbrev pub is-waiting : Ledger → Message → ℕ → Bool
 is-waiting l m j = eqb (times m j) 0 && is-live m && ltb (l .count) (last-cycle m j)
 
+-- whether a message's end, if it has one, came before cycle c
 abbrev pub ended-before : ℕ → Option ℕ → Bool
 ended-before c None = false
 ended-before c (Some e) = ltb e c
@@ -193,6 +200,10 @@ released l m = instance-in m (lived-to l m)
 -- one for a test that passes
 abbrev pub one-if : Bool → ℕ
 one-if b = cond b 1 0
+
+-- how many of the three fates instance j has
+abbrev pub fates : Ledger → Message → ℕ → ℕ
+fates l m j = one-if (is-scheduled m j) + one-if (is-waiting l m j) + one-if (is-withdrawn m j)
 
 -- how many of the instances 1 to n pass a test
 unfoldable pub how-many : ℕ → (ℕ → Bool) → ℕ

@@ -25,7 +25,7 @@ use Rattle.ftt.specs.Ledger.{
   is-withdrawn,
   lived-to,
   released,
-  one-if,
+  fates,
   how-many,
   noted-in,
 }
@@ -33,7 +33,7 @@ use Rattle.ftt.specs.Ledger.{
 -- the account of one message
 pub record Accounted (l : Ledger) (m : Message) : Type 0 where
   -- every released instance has exactly one fate
-  pub one-fate : (j : ℕ) → 1 ≤ j → j ≤ released l m → one-if (is-scheduled m j) + one-if (is-waiting l m j) + one-if (is-withdrawn m j) ≡ 1
+  pub one-fate : (j : ℕ) → 1 ≤ j → j ≤ released l m → fates l m j ≡ 1
   -- every cycle in which it was scheduled lies in its life, and schedules an instance that was released by then
   pub in-life : All (λ c. (m .start < c) × (c ≤ lived-to l m) × (1 ≤ instance-in m c)) (m .noted)
   -- the numbers add up

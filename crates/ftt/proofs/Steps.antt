@@ -1,6 +1,6 @@
 -- What the calls come to, by the refusal of their checks and rehearsals. Assumes nothing.
 use mathlib.Core.Path.{_≡_, refl, sym, ap, _∙_}
-use mathlib.Core.List.{[], _∷_}
+use mathlib.Core.List.{[]}
 use mathlib.Core.Bool.{Bool, true, false}
 use Prim.Native.Nat.{ℕ}
 use native.Mathlib.Omega.{arith}
@@ -15,7 +15,6 @@ use Rattle.std.proofs.shelf.Tests.{true≢false}
 use Rattle.bus.specs.declared.refusal.Refusal.{Refusal}
 use Rattle.bus.specs.Refusals.{Told, told, numbered}
 use Rattle.orders.specs.Laws.{Order}
-use Rattle.engine.specs.declared.row.Figures.{Figures}
 use Rattle.engine.specs.declared.verdict.Verdict.{Verdict}
 use Rattle.engine.specs.declared.verdict.Verdict.the-variants.{Settled, Late, Unsettled}
 use Rattle.engine.specs.Cycle.{first-of}

@@ -1,9 +1,5 @@
--- The state that a master stands for, and its answers as they are told. Assumes nothing.
+-- The state that a master stands for. Assumes nothing.
 use Prim.Native.Nat.{ℕ}
-use Rattle.std.specs.declared.option.Option.{Option}
-use Rattle.std.specs.declared.option.Option.the-variants.{Some, None}
-use Rattle.std.specs.declared.result.Result.{Result}
-use Rattle.std.specs.declared.result.Result.the-variants.{Ok, Err}
 use Rattle.engine.specs.Held.{slots}
 use Rattle.ftt.specs.declared.master.Master.{Master}
 use Rattle.ftt.specs.declared.watch.IdleWatch.{IdleWatch}

@@ -34,6 +34,7 @@ impl<P: Policy> Master<P> {
     pub fn next(&mut self, watch: IdleWatch) -> OwedTrigger
         ensures answer { λ r. ⌜ ((report : Report) → scheduled (r .schedule .word) ≡ answer (P·Policy .goes) 32 5040 (stands (now (self .entry)) watch) (next-call report)) ⌝ }
         ensures after { λ r. ⌜ ((report : Report) → standing (now (self .exit)) (counted report (r .lost)) ≡ after (P·Policy .goes) 32 5040 (stands (now (self .entry)) watch) (next-call report)) ⌝ }
+        ensures kept { λ r. ⌜ r .lost ≡ watch .lost ⌝ }
     {
         let mut rows = self.rows;
         let outcome = run_cycle(&mut rows, self.window, &self.policy);

@@ -14,4 +14,5 @@ returns g c =
     record {
       answer = λ report. ap schedule (ap (λ s. s .word) (c .owe .ensures .schedule) ∙ c .run-cycle-outcome .ensures .word);
       after = λ report. same-state _ _ _ _ _ _ (c .run-cycle-outcome .ensures .after) (ap (counted report) (c .owe .ensures .lost));
+      kept = c .owe .ensures .lost;
     }

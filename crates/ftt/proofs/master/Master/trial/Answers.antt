@@ -1,7 +1,5 @@
-use mathlib.Core.Path.{_≡_, sym, ap, _∙_}
-use Rattle.ftt.specs.Calls.{Call, answer, step}
+use Rattle.ftt.specs.Calls.{step}
 use Rattle.ftt.specs.Held.{standing}
-use Rattle.ftt.specs.Questions.{call-of}
 use Rattle.ftt.proofs.Steps.{changed-answer}
 use Rattle.ftt.proofs.master.Master.trial.Needs as need
 

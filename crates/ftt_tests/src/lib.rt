@@ -11,6 +11,8 @@ mod tests {
     use bus::refusal::RefusalDebug;
     use bus::refusal::RefusalPartialEq;
     use engine::row::Figures;
+    use engine::row::FiguresDebug;
+    use engine::row::FiguresPartialEq;
     use ftt::change::Change;
     use ftt::master::Master;
     use ftt::watch::IdleWatch;
@@ -66,7 +68,6 @@ mod tests {
         let plan = master.plan(&mut planned);
         let mut words = [0; CYCLES];
         let watch = run(&mut master, watch, &mut words);
-        master.stop(watch);
         check_eq(filled, Ok(()))?;
         check_eq(late, Err(Refusal::Late { row: 3, cycle: 6 }))?;
         check_eq(tried, Ok(()))?;
@@ -90,8 +91,6 @@ mod tests {
         let alike_at_other_cycles = one.alike(&other);
         let dropped = one.drop_row(&first, 2);
         let alike_without_a_row = one.alike(&other);
-        one.stop(first);
-        other.stop(second);
         check_eq(filled, Ok(()))?;
         check_eq(filled_too, Ok(()))?;
         check_eq(narrow, Err(Refusal::AboveWindow { row: 0 }))?;
@@ -99,5 +98,24 @@ mod tests {
         check(still_alike && alike_at_other_cycles)?;
         check_eq(dropped, Ok(()))?;
         check(!alike_without_a_row)
+    }
+
+    #[test]
+    fn an_altered_message_begins_anew() -> Result<(), Fail> {
+        let (mut master, watch) = Master::new(Selector::RateMonotonic);
+        let filled = fill(&mut master, &watch);
+        let altered = master.alter(&watch, 2, message(10, 6));
+        let figures = master.row(2);
+        let watch = master.next(watch).sent();
+        let owed = master.next(watch);
+        let second = owed.schedule().word;
+        let owed = master.next(owed.sent());
+        let third = owed.schedule().word;
+        let _idle = owed.sent();
+        check_eq(filled, Ok(()))?;
+        check_eq(altered, Ok(()))?;
+        check_eq(figures, Ok(message(10, 6)))?;
+        check_eq(second, 2)?;
+        check_eq(third, 4)
     }
 }

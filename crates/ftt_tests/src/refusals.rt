@@ -28,7 +28,6 @@ fn answer(change: Change<Selector>) -> Result<(), Refusal> {
     let _ = master.set_window(&watch, 20);
     let _ = master.add(&watch, 31, figures(10, 2, 2));
     let answer = master.trial(&change);
-    master.stop(watch);
     answer
 }
 
@@ -36,11 +35,18 @@ fn add(row: u8, figures: Figures) -> Result<(), Refusal> {
     answer(Change::Add { row, figures })
 }
 
+fn alter(row: u8, figures: Figures) -> Result<(), Refusal> {
+    answer(Change::Alter { row, figures })
+}
+
 #[test]
 fn rows() -> Result<(), Fail> {
     check_eq(add(30, figures(1, 1, 1)), Ok(()))?;
     check_eq(add(31, figures(1, 1, 1)), Err(Refusal::RowUsed))?;
     check_eq(add(32, figures(1, 1, 1)), Err(Refusal::RowAbove31))?;
+    check_eq(alter(30, figures(1, 1, 1)), Err(Refusal::RowEmpty))?;
+    check_eq(alter(31, figures(1, 1, 1)), Ok(()))?;
+    check_eq(alter(32, figures(1, 1, 1)), Err(Refusal::RowAbove31))?;
     check_eq(answer(Change::Drop { row: 30 }), Err(Refusal::RowEmpty))?;
     check_eq(answer(Change::Drop { row: 31 }), Ok(()))?;
     check_eq(answer(Change::Drop { row: 32 }), Err(Refusal::RowAbove31))
@@ -100,7 +106,6 @@ fn rounds() -> Result<(), Fail> {
     let used = master.row(1);
     let empty = master.row(2);
     let none = master.row(32);
-    master.stop(watch);
     check_eq(first, Ok(()))?;
     check_eq(at_the_limit, Ok(()))?;
     check_eq(past_the_limit, Err(Refusal::RoundTooLong))?;
@@ -118,7 +123,6 @@ fn plans() -> Result<(), Fail> {
     let of_none = master.plan(&mut none);
     let of_longest = master.plan(&mut longest);
     let of_longer = master.plan(&mut longer);
-    master.stop(watch);
     check_eq(of_none, Err(Refusal::PlanLength))?;
     check_eq(of_longest, Ok(()))?;
     check_eq(longest[255], 0)?;
@@ -145,7 +149,6 @@ fn a_full_bus_does_not_settle() -> Result<(), Fail> {
         made &= master.add(&watch, row, staggered(row)).is_ok();
     }
     let one_more = master.add(&watch, 16, staggered(0));
-    master.stop(watch);
     check(made)?;
     check_eq(one_more, Err(Refusal::Unsettled))
 }

@@ -13,7 +13,6 @@ fn counts_the_lost_in_a_row() -> Result<(), Fail> {
     let after_two = watch.lost_in_a_row();
     let watch = master.next(watch).sent();
     let after_one_sent = watch.lost_in_a_row();
-    master.stop(watch);
     check_eq(at_first, 0)?;
     check_eq(after_two, 2)?;
     check_eq(after_one_sent, 0)
@@ -27,6 +26,5 @@ fn stays_at_255() -> Result<(), Fail> {
         watch = master.next(watch).lost();
     }
     let count = watch.lost_in_a_row();
-    master.stop(watch);
     check_eq(count, 255)
 }

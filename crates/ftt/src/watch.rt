@@ -57,7 +57,7 @@ impl OwedTrigger {
             schedule: _,
             lost: _,
         } = self;
-        IdleWatch { lost: 0 }
+        IdleWatch::new()
     }
 
     pub fn lost(self) -> IdleWatch

@@ -1,6 +1,6 @@
 // A session: a master over the selector, told what to do by lines.
 ghost use mathlib.Core.Path.{_≡_};
-ghost use Rattle.bus.specs.Refusals.{answered};
+ghost use Rattle.bus.specs.Refusals.{answered, told};
 ghost use Rattle.ftt.specs.Calls.{fresh};
 ghost use Rattle.ftt.specs.Calls.Call.{next as next-call};
 ghost use Rattle.ftt.specs.Calls.Report.{sent as was-sent};
@@ -8,6 +8,7 @@ ghost use Rattle.ftt.specs.Told.{told-answer};
 ghost use Rattle.bus.specs.Frames.{frame-answer};
 ghost use Prim.Native.Nat.{ℕ};
 ghost use Rattle.orders.specs.declared.selector.Selector.the-variants.{RateMonotonic};
+ghost use Rattle.session.specs.Replies.Said.{refused as told-refused};
 ghost use Rattle.session.specs.Replies.{answers, by-answer, by-units, form-said, form-after, leaves, line-said, line-after, said, said-answer, standing-of, taken, told-reply};
 use crate::answer::Answer;
 use crate::reply::Reply;
@@ -16,6 +17,7 @@ use bus::refusal::Refusal;
 use ftt::master::Master;
 use ftt::watch::IdleWatch;
 use lines::fault::Fault;
+use lines::fault::FaultFromNumbered;
 use lines::form::Form;
 use lines::reader::read_form;
 use orders::policy::Policy;
@@ -49,6 +51,13 @@ fn units(cycle_bits: u16, data_bytes: u8) -> Result<Reply, Refusal>
         Ok(units) => Ok(Reply::Line(Answer::Units(units))),
         Err(refusal) => Err(refusal),
     }
+}
+
+// The refusal, with the number of the line that it came from.
+fn refused(number: u32, refusal: Refusal) -> Reply
+    ensures { λ r. ⌜ said r ≡ told-refused number (told refusal) ⌝ }
+{
+    Reply::Line(Answer::Refused(Fault::from((number, refusal))))
 }
 
 fn read_line(line: &[u8]) -> Result<Form, Refusal>
@@ -101,17 +110,11 @@ impl Session {
         }
         let form = match read_line(line) {
             Ok(form) => form,
-            Err(refusal) => return Reply::Line(Answer::Refused(Fault {
-                line: number,
-                refusal,
-            })),
+            Err(refusal) => return refused(number, refusal),
         };
         match self.obey(form) {
             Ok(reply) => reply,
-            Err(refusal) => Reply::Line(Answer::Refused(Fault {
-                line: number,
-                refusal,
-            })),
+            Err(refusal) => refused(number, refusal),
         }
     }
 

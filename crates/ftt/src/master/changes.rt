@@ -29,7 +29,8 @@ impl<P: Policy> Master<P> {
         ensures after { λ _. ⌜ stands (now (self .exit)) (now (watch .entry)) ≡ after (P·Policy .goes) 32 5040 (stands (now (self .entry)) (now (watch .entry))) (to-alter row figures) ⌝ }
     {
         self.judge_alter(row, figures)?;
-        self.rows[usize::from(row)] = Some(new_row(figures));
+        let place = usize::from(row);
+        self.rows[place] = Some(new_row(figures));
         Ok(())
     }
 

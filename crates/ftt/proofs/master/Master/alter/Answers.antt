@@ -38,4 +38,4 @@ returns g c =
     let call = alter (c .args .row) (c .args .figures) in
     let done = made-changes (g .P·Policy .goes) 32 5040 s call _ (c .in-Continue-judge-alter .ensures tt .refusal (c .args .watch .now .lost)) (rehearsed-takes (g .P·Policy .goes) 32 5040 _) in
     let within : c .args .row < length (c .args .self .now .rows) = omega (arith, c .args .self .now .long, c .in-Continue-judge-alter .ensures tt .exists) in
-    record { answer = done .0; after = same-state _ _ _ _ _ _ (stored (c .args .self .now .rows) _ (c .args .row) _ _ within (c .from .ensures) (ap Some (c .new-row .ensures))) refl ∙ done .1 }
+    record { answer = done .0; after = same-state _ _ _ _ _ _ (stored (c .args .self .now .rows) _ (c .args .row) _ _ within (c .from-place .ensures) (ap Some (c .new-row .ensures))) refl ∙ done .1 }

@@ -1,5 +1,7 @@
 // Repeats one operation of the library, so that its instructions can be counted: `bench SCENARIO REPEATS SIZE`.
 // It prints a checksum of all answers. `bench/run` counts, and compares with the plain implementation beside it.
+#![tactic(auto)]
+
 mod board;
 mod calls;
 mod draft;

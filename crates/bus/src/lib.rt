@@ -1,4 +1,6 @@
 // What goes over the bus, and what the master answers when it declines.
+#![tactic(auto)]
+
 pub mod frame;
 pub mod refusal;
 pub mod rows;

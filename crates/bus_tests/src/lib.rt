@@ -1,4 +1,6 @@
 // The bus crate on examples: frame lengths that are published elsewhere, worked triggers, and the borders of each refusal.
+#![tactic(auto)]
+
 #[cfg(test)]
 mod frames;
 #[cfg(test)]

@@ -1,4 +1,6 @@
 // The plain calls of the dispatcher, a C program, on numbers and bytes. c/tolnakse.h declares them.
+#![tactic(auto)]
+
 ghost use Rattle.std.specs.Prelude.{◌≡◌};
 ghost use Rattle.bus.specs.Frames.{frame_answer};
 ghost use Rattle.bus.specs.Triggers.{write_answer, written};

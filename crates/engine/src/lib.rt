@@ -1,4 +1,6 @@
 // The table of periodic messages: what one elementary cycle does to it, and the rehearsal of a change.
+#![tactic(auto)]
+
 mod counters;
 pub mod cycle;
 pub mod known;

@@ -1,4 +1,5 @@
 // Small tables: their cycles and their rehearsals, run.
+#![tactic(auto)]
 
 #[cfg(test)]
 mod rehearsals;

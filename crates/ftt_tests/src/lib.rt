@@ -1,4 +1,5 @@
 // Masters at work: changes, cycles, questions and refusals, run.
+#![tactic(auto)]
 
 #[cfg(test)]
 mod refusals;

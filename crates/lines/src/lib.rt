@@ -1,4 +1,5 @@
 // Reads the bracket lines by which the master is told what to do, and writes a row as such a line.
+#![tactic(auto)]
 
 pub mod fault;
 pub mod form;

@@ -1,4 +1,5 @@
 // What lines say, and where they are at fault.
+#![tactic(auto)]
 
 #[cfg(test)]
 mod faults;

@@ -1,4 +1,6 @@
 // Reads bracket lines on standard input, and prints the answer to each.
+#![tactic(auto)]
+
 use session::reply::Reply;
 use session::session::Session;
 use std::io;

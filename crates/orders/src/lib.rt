@@ -1,4 +1,5 @@
 // Which of two waiting instances goes first. A policy is an order over waiting instances and a label.
+#![tactic(auto)]
 
 pub mod instance;
 pub mod keyed;

@@ -1,4 +1,5 @@
 // Examples of the orders, run.
+#![tactic(auto)]
 
 #[cfg(test)]
 mod tests {

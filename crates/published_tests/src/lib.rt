@@ -1,5 +1,6 @@
 // Published tables, run: subsets of the SAE benchmark on elementary cycles of 5 ms with frames of 23 units, and a bus
 // on which every row goes in every cycle.
+#![tactic(auto)]
 
 #[cfg(test)]
 mod tests {

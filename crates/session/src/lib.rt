@@ -1,4 +1,6 @@
 // What the program answers to the lines of its input, and what it prints for each answer.
+#![tactic(auto)]
+
 pub mod answer;
 pub mod reply;
 pub mod session;

@@ -1,2 +1,4 @@
 // A short text that grows at its end, without a heap.
+#![tactic(auto)]
+
 pub mod text;

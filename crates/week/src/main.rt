@@ -1,4 +1,6 @@
 // One working week of a cart's bus: the changes that the crew made, and the account of every message at its end.
+#![tactic(auto)]
+
 mod account;
 mod crew;
 

@@ -5,11 +5,11 @@ use Rattle.bus.specs.Triggers.{trigger_bytes, trigger_word, NamedIn, put_at, fit
 use Rattle.bus.proofs.Triggers.{named_by_bytes, part_written, put_at_holds, put_at_word}
 use Rattle.bus.proofs.trigger.write_trigger.Goals as goal
 
-inside : (c : goal.After-slice-known-2·1) → fits c.args.buffer.now c.args.offset ≡ true
+inside : (c : goal.After-slice_known-2-1) → fits c.args.buffer.now c.args.offset ≡ true
 inside c = sym c.if-not-fits.ensures
 
 -- the buffer as the code leaves it
-put_there : (c : goal.After-slice-known-2·1) → put_mid c.args.offset ((c.args.offset + 4) - c.args.offset) c.args.buffer.now c.put.new.part ≡ put_at c.args.offset (trigger_bytes c.args.rows.word) c.args.buffer.now
+put_there : (c : goal.After-slice_known-2-1) → put_mid c.args.offset ((c.args.offset + 4) - c.args.offset) c.args.buffer.now c.put.new.part ≡ put_at c.args.offset (trigger_bytes c.args.rows.word) c.args.buffer.now
 put_there c =
     let at = c.args.offset in
     let buffer = c.args.buffer.now in

@@ -13,8 +13,8 @@ loop-r-init c = refl
 pub loop-r-preserved : goal.loop-r-preserved
 loop-r-preserved c =
     elim c.if-rows-r.branch [
-      | then-rows-r w ↦ w.word_is ∙ ap (λ v. bit_or v ((1 * 2 ^ c.loop-r.r) % 2 ^ 32)) c.loop-r.invariant ∙ word_of_set c.args.rows.now c.loop-r.r (omega arith) (omega arith) w.if-rows-r.true
-      | else-rows-r w ↦ w.word_is ∙ c.loop-r.invariant ∙ word_of_left c.args.rows.now c.loop-r.r (omega arith) w.if-rows-r.false
+      | then-rows-r w ↦ w.word-is ∙ ap (λ v. bit_or v ((1 * 2 ^ c.loop-r.r) % 2 ^ 32)) c.loop-r.invariant ∙ word_of_set c.args.rows.now c.loop-r.r (omega arith) (omega arith) w.if-rows-r.true
+      | else-rows-r w ↦ w.word-is ∙ c.loop-r.invariant ∙ word_of_left c.args.rows.now c.loop-r.r (omega arith) w.if-rows-r.false
     ]
 
 whole : (c : goal.After-loop-r) → c.loop-r.word ≡ word_of c.args.rows.now

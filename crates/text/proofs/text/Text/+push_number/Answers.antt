@@ -15,7 +15,7 @@ returns t c =
       | then-number-ge10 w ↦
           c.push.ensures
           ∙ ap (λ (x : Text). grown (text_of x) digit) w.self-is
-          ∙ ap (λ l. grown l digit) w.push-number.ensures
+          ∙ ap (λ l. grown l digit) w.push_number.ensures
           ∙ grown_twice before (decimal (n / 10)) digit
           ∙ ap (λ l. grown before l) (sym (decimal_step n (omega arith) (omega arith)))
       | else-number-ge10 w ↦

@@ -8,9 +8,9 @@ loop-r-init c = (c.told-cycles, λ k h. absurd (omega arith), λ k h. refl)
 
 pub loop-r-preserved : goal.loop-r-preserved
 loop-r-preserved c =
-    let v = c.saturating-sub.result in (
+    let v = c.saturating_sub.result in (
       length-set c.loop-r.cycles c.loop-r.r v ∙ c.loop-r.invariant.0,
-      filled_more (λ k. get_or c.args.cycles.now k 0 - 1) c.loop-r.cycles c.loop-r.r v 0 (omega arith) (c.saturating-sub.ensures ∙ ap (λ n. n - 1) (c.loop-r.invariant.2 c.loop-r.r (omega arith))) c.loop-r.invariant.1,
+      filled_more (λ k. get_or c.args.cycles.now k 0 - 1) c.loop-r.cycles c.loop-r.r v 0 (omega arith) (c.saturating_sub.ensures ∙ ap (λ n. n - 1) (c.loop-r.invariant.2 c.loop-r.r (omega arith))) c.loop-r.invariant.1,
       λ k h. let ne : k ≢ c.loop-r.r = omega arith in get_or-set_other c.loop-r.cycles c.loop-r.r k v 0 ne ∙ c.loop-r.invariant.2 k (omega arith),
     )
 

@@ -6,10 +6,10 @@ use Rattle.engine.specs.Cycle.{lowest}
 use Rattle.engine.proofs.Tests.{lowest_skip, lowest_found, lowest_nowhere}
 use Rattle.engine.proofs.counters.first_late.Goals as goal
 
-pub returns-then-rows-with-eq0 : goal.returns-then-rows-with-eq0
-returns-then-rows-with-eq0 c =
+pub returns-then-rows_with-eq0 : goal.returns-then-rows_with-eq0
+returns-then-rows_with-eq0 c =
     sym (lowest_nowhere 32 (λ k. eqb (get_or c.args.lefts.now k 0) 1)
-    (λ k h. sym (c.rows-with.ensures k h) ∙ ap (λ w. member w k) c.if-rows-with-eq0.true ∙ no_member_past 0 0 k (omega arith) (omega arith)))
+    (λ k h. sym (c.rows_with.ensures k h) ∙ ap (λ w. member w k) c.if-rows_with-eq0.true ∙ no_member_past 0 0 k (omega arith) (omega arith)))
 
 pub loop-r-init : goal.loop-r-init
 unfolding lowest

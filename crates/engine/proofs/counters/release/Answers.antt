@@ -11,11 +11,11 @@ due waits k = eqb (get_or waits k 0) 0
 
 pub loop-rest-init : goal.loop-rest-init
 loop-rest-init c = (
-  c.rows-with-rest.type-inv,
+  c.rows_with-rest.type_inv,
   0,
   omega arith,
   released_none c.args.kinds.now c.args.waits.now c.args.lefts.now c.told-waits c.told-lefts,
-  rest_whole (due c.args.waits.now) c.rows-with-rest.result c.rows-with-rest.ensures,
+  rest_whole (due c.args.waits.now) c.rows_with-rest.result c.rows_with-rest.ensures,
 )
 
 inside : (test : ℕ → Bool) (r rest : ℕ) → (rest ≡ 0 → ⊥) → rest < 2 ^ 32 → RestOf test r rest → count_trailing_zeros 32 rest < 32

@@ -12,8 +12,8 @@ is_set false = refl
 mask : (xs : List ℕ) (value : ℕ) → length xs ≡ 32 → mask_l (map (λ x. eqb x value) xs) < 2 ^ 32
 mask xs value long = subst (λ n. mask_l (map (λ x. eqb x value) xs) < 2 ^ n) (length-map xs (λ x. eqb x value) ∙ long) (mask_l-lt (map (λ x. eqb x value) xs))
 
-pub overflow-cast-result : goal.overflow-cast-result
-overflow-cast-result c = omega (arith, bitmask_splat w8 eqb c.args.cycles.now 32 c.args.value c.told-cycles (omega arith), mask c.args.cycles.now c.args.value c.told-cycles)
+pub overflow_cast-result : goal.overflow_cast-result
+overflow_cast-result c = omega (arith, bitmask_splat w8 eqb c.args.cycles.now 32 c.args.value c.told-cycles (omega arith), mask c.args.cycles.now c.args.value c.told-cycles)
 
 pub returns : goal.returns
 returns c =

@@ -17,8 +17,8 @@ nonzero (suc n) = ap not (ne_eqb (suc n) 0 (λ e. omega arith)) ∙ sym (lt-ltb 
 mask : (xs : List ℕ) (value : ℕ) → length xs ≡ 32 → mask_l (map (λ x. not (eqb x value)) xs) < 2 ^ 32
 mask xs value long = subst (λ n. mask_l (map (λ x. not (eqb x value)) xs) < 2 ^ n) (length-map xs (λ x. not (eqb x value)) ∙ long) (mask_l-lt (map (λ x. not (eqb x value)) xs))
 
-pub overflow-cast-word : goal.overflow-cast-word
-overflow-cast-word c = omega (arith, bitmask_splat w8 (λ a b. not (eqb a b)) c.args.lefts.now 32 0 c.told-lefts (omega arith), mask c.args.lefts.now 0 c.told-lefts)
+pub overflow_cast-word : goal.overflow_cast-word
+overflow_cast-word c = omega (arith, bitmask_splat w8 (λ a b. not (eqb a b)) c.args.lefts.now 32 0 c.told-lefts (omega arith), mask c.args.lefts.now 0 c.told-lefts)
 
 pub returns : goal.returns
 returns c =

@@ -2,7 +2,7 @@ use Rattle.std.proofs.Common.{ℕ, ◌+◌, List, get_or, Option, sym, refl, sub
 use Rattle.engine.specs.declared.row.Row.{Row}
 use Rattle.engine.proofs.Passes.{ChangedBelow, changed_none, changed_empty, changed_used, changed_all}
 use Rattle.engine.proofs.cycle.write_back.Goals as goal
-use Rattle.engine.proofs.cycle.write_back.Goals.{in-Some, in-default}
+use Rattle.engine.proofs.cycle.write_back.Goals.{in-Some, in_default}
 
 pub loop-r-init : goal.loop-r-init
 loop-r-init c = changed_none _ _
@@ -13,7 +13,7 @@ loop-r-preserved c =
     let Done : List (Option Row) → Type 0 = ChangedBelow (c.loop-r.r + 1) counters c.args.rows.now in
     elim c.match-rows-r.branch [
       | in-Some w ↦ subst Done (sym w.rows-is) (changed_used counters _ c.loop-r.rows _ c.loop-r.invariant w.in-Some.row _ (omega arith) w.in-Some.is refl)
-      | in-default w ↦ subst Done (sym w.rows-is) (changed_empty counters _ c.loop-r.rows _ c.loop-r.invariant w.in-default.is)
+      | in_default w ↦ subst Done (sym w.rows-is) (changed_empty counters _ c.loop-r.rows _ c.loop-r.invariant w.in_default.is)
     ]
 
 pub returns : goal.returns

@@ -19,10 +19,10 @@ returns-in-Some g c =
     let rules = rules_of (g.P.Policy.goes c.args.policy.now) c.args.window in
     let so_far = c.loop-done.invariant t was in (
       cycle rules so_far.0,
-      c.run-columns.ensures.after so_far.0 so_far.1,
+      c.run_columns.ensures.after so_far.0 so_far.1,
       λ next.
           so_far.2 next
-          ∙ ends_late rules c.args.cycles c.loop-done.done _ next so_far.0 _ c.loop-done-test.true (sym (c.run-columns.ensures.late so_far.0 so_far.1) ∙ c.in-Some.is),
+          ∙ ends_late rules c.args.cycles c.loop-done.done _ next so_far.0 _ c.loop-done-test.true (sym (c.run_columns.ensures.late so_far.0 so_far.1) ∙ c.in-Some.is),
     )
 
 pub loop-done-preserved : goal.loop-done-preserved
@@ -31,11 +31,11 @@ loop-done-preserved g c =
     let rules = rules_of (g.P.Policy.goes c.args.policy.now) c.args.window in
     let so_far = c.loop-done.invariant t was in (
       cycle rules so_far.0,
-      c.run-columns.ensures.after so_far.0 so_far.1,
+      c.run_columns.ensures.after so_far.0 so_far.1,
       λ next.
           so_far.2 next
           ∙ goes_on rules c.args.cycles c.loop-done.done (c.args.coming + c.loop-done.done) next so_far.0 c.loop-done-test.true
-          (sym (c.run-columns.ensures.late so_far.0 so_far.1) ∙ c.in-default.is)
+          (sym (c.run_columns.ensures.late so_far.0 so_far.1) ∙ c.in_default.is)
           ∙ ap (λ coming. stretch rules (c.args.cycles - (c.loop-done.done + 1)) coming next (cycle rules so_far.0)) (add_assoc c.args.coming c.loop-done.done 1),
     )
 

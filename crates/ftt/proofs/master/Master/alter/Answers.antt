@@ -9,21 +9,21 @@ use Rattle.ftt.proofs.Standing.{same_state, stored}
 use Rattle.ftt.proofs.Steps.{declined_keeps, made_changes, rehearsed_takes}
 use Rattle.ftt.proofs.master.Master.alter.Goals as goal
 
-pub returns-in-err-judge-alter : goal.returns-in-err-judge-alter
+pub returns-in_err-judge_alter : goal.returns-in_err-judge_alter
 unfolding step
-returns-in-err-judge-alter g c =
+returns-in_err-judge_alter g c =
     let s = stands c.args.self.now c.args.watch.now in
     let call = alter c.args.row c.args.figures in
-    let is : refusal_of c.from-residual.result ≡ refusal_to g.P.Policy.goes 32 5040 s call = search rules in
-    let done = declined_keeps g.P.Policy.goes 32 5040 s call c.from-residual.result c.from-residual.ensures.0 is in
+    let is : refusal_of c.from_residual.result ≡ refusal_to g.P.Policy.goes 32 5040 s call = search rules in
+    let done = declined_keeps g.P.Policy.goes 32 5040 s call c.from_residual.result c.from_residual.ensures.0 is in
     record { answer = done.0; after = done.1 }
 
-pub invariant-of-self : goal.invariant-of-self
-invariant-of-self g c =
+pub invariant_of-self : goal.invariant_of-self
+invariant_of-self g c =
     let s = stands c.args.self.now c.args.watch.now in
-    let new_sound = altered_sound g.P.Policy.goes 32 5040 s c.args.row c.args.figures (c.in-ok-judge-alter.ensures.refusal c.args.watch.now.lost) in (
+    let new_sound = altered_sound g.P.Policy.goes 32 5040 s c.args.row c.args.figures (c.in_ok-judge_alter.ensures.refusal c.args.watch.now.lost) in (
       length-set c.args.self.now.rows _ _ ∙ c.args.self.now.long,
-      (set_sound c.args.self.now.rows _ (Some c.new-row.result) (ap sound c.new-row.ensures ∙ new_sound) c.args.self.now.sound, (c.args.self.now.«open», tt)),
+      (set_sound c.args.self.now.rows _ (Some c.new_row.result) (ap sound c.new_row.ensures ∙ new_sound) c.args.self.now.sound, (c.args.self.now.«open», tt)),
     )
 
 pub returns : goal.returns
@@ -31,6 +31,6 @@ unfolding step outcome
 returns g c =
     let s = stands c.args.self.now c.args.watch.now in
     let call = alter c.args.row c.args.figures in
-    let done = made_changes g.P.Policy.goes 32 5040 s call _ (c.in-ok-judge-alter.ensures.refusal c.args.watch.now.lost) (rehearsed_takes g.P.Policy.goes 32 5040 _) in
-    let within : c.args.row < length c.args.self.now.rows = omega (arith, c.args.self.now.long, c.in-ok-judge-alter.ensures.exists) in
-    record { answer = done.0; after = same_state _ _ _ _ _ _ (stored c.args.self.now.rows _ c.args.row _ _ within c.from-place.ensures (ap Some c.new-row.ensures)) refl ∙ done.1 }
+    let done = made_changes g.P.Policy.goes 32 5040 s call _ (c.in_ok-judge_alter.ensures.refusal c.args.watch.now.lost) (rehearsed_takes g.P.Policy.goes 32 5040 _) in
+    let within : c.args.row < length c.args.self.now.rows = omega (arith, c.args.self.now.long, c.in_ok-judge_alter.ensures.exists) in
+    record { answer = done.0; after = same_state _ _ _ _ _ _ (stored c.args.self.now.rows _ c.args.row _ _ within c.from-place.ensures (ap Some c.new_row.ensures)) refl ∙ done.1 }

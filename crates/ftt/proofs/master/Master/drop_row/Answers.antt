@@ -8,23 +8,23 @@ use Rattle.ftt.proofs.Standing.{same_state, stored}
 use Rattle.ftt.proofs.Steps.{declined_keeps, made_changes}
 use Rattle.ftt.proofs.master.Master.drop_row.Goals as goal
 
-pub returns-in-err-judge-drop : goal.returns-in-err-judge-drop
+pub returns-in_err-judge_drop : goal.returns-in_err-judge_drop
 unfolding step
-returns-in-err-judge-drop g c =
+returns-in_err-judge_drop g c =
     let s = stands c.args.self.now c.args.watch.now in
     let call = drop c.args.row in
-    let is : refusal_of c.from-residual.result ≡ refusal_to g.P.Policy.goes 32 5040 s call = search rules in
-    let done = declined_keeps g.P.Policy.goes 32 5040 s call c.from-residual.result c.from-residual.ensures.0 is in
+    let is : refusal_of c.from_residual.result ≡ refusal_to g.P.Policy.goes 32 5040 s call = search rules in
+    let done = declined_keeps g.P.Policy.goes 32 5040 s call c.from_residual.result c.from_residual.ensures.0 is in
     record { answer = done.0; after = done.1 }
 
-pub invariant-of-self : goal.invariant-of-self
-invariant-of-self g c = (length-set c.args.self.now.rows _ _ ∙ c.args.self.now.long, (set_sound c.args.self.now.rows _ None refl c.args.self.now.sound, (c.args.self.now.«open», tt)))
+pub invariant_of-self : goal.invariant_of-self
+invariant_of-self g c = (length-set c.args.self.now.rows _ _ ∙ c.args.self.now.long, (set_sound c.args.self.now.rows _ None refl c.args.self.now.sound, (c.args.self.now.«open», tt)))
 
 pub returns : goal.returns
 unfolding step outcome
 returns g c =
     let s = stands c.args.self.now c.args.watch.now in
     let call = drop c.args.row in
-    let done = made_changes g.P.Policy.goes 32 5040 s call _ (c.in-ok-judge-drop.ensures.refusal c.args.watch.now.lost) (λ none. refl) in
-    let within : c.args.row < length c.args.self.now.rows = omega (arith, c.args.self.now.long, c.in-ok-judge-drop.ensures.exists) in
+    let done = made_changes g.P.Policy.goes 32 5040 s call _ (c.in_ok-judge_drop.ensures.refusal c.args.watch.now.lost) (λ none. refl) in
+    let within : c.args.row < length c.args.self.now.rows = omega (arith, c.args.self.now.long, c.in_ok-judge_drop.ensures.exists) in
     record { answer = done.0; after = same_state _ _ _ _ _ _ (stored c.args.self.now.rows _ c.args.row _ _ within c.from.ensures refl) refl ∙ done.1 }

@@ -2,13 +2,13 @@ use Rattle.std.proofs.Common.{rules}
 use Rattle.rules.specs.Calls.{checks, outcome}
 use Rattle.ftt.proofs.master.Master.judge_alter.Goals as goal
 
-pub returns-in-err-check-exists : goal.returns-in-err-check-exists
+pub returns-in_err-check_exists : goal.returns-in_err-check_exists
 unfolding checks outcome
-returns-in-err-check-exists g c = search rules
+returns-in_err-check_exists g c = search rules
 
-pub returns-in-err-check-used : goal.returns-in-err-check-used
+pub returns-in_err-check_used : goal.returns-in_err-check_used
 unfolding checks outcome
-returns-in-err-check-used g c = search rules
+returns-in_err-check_used g c = search rules
 
 pub returns : goal.returns
 unfolding checks outcome

@@ -3,4 +3,4 @@ use Rattle.ftt.proofs.master.Master.judge_policy.Goals as goal
 
 pub returns : goal.returns
 unfolding checks outcome
-returns g c = λ n. c.check-rehearsal.ensures n
+returns g c = λ n. c.check_rehearsal.ensures n

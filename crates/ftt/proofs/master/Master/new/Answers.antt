@@ -5,9 +5,9 @@ use Rattle.ftt.specs.Tables.{all_sound}
 use Rattle.ftt.proofs.Standing.{no_rows, same_state}
 use Rattle.ftt.proofs.master.Master.new.Goals as goal
 
-pub invariant-of-master : goal.invariant-of-master
+pub invariant_of-master : goal.invariant_of-master
 unfolding all_sound
-invariant-of-master g c = (refl, (refl, (omega arith, tt)))
+invariant_of-master g c = (refl, (refl, (omega arith, tt)))
 
 pub returns : goal.returns
 returns g c =

@@ -28,6 +28,6 @@ loop-i-preserved g c =
     let rules = rules_of (g.P.Policy.goes c.args.self.now.policy) c.args.self.now.window in
     let t = slots c.args.self.now.rows in
     let now = slots c.loop-i.rows in (
-      one_more rules t now (slots c.run-cycle.new.rows) c.loop-i.i c.loop-i.invariant.0 c.run-cycle.ensures.after,
-      one_planned rules t now c.loop-i.words c.loop-i.i c.run-cycle.result.schedule.word (omega arith) c.loop-i.invariant.0 c.run-cycle.ensures.word c.loop-i.invariant.1,
+      one_more rules t now (slots c.run_cycle.new.rows) c.loop-i.i c.loop-i.invariant.0 c.run_cycle.ensures.after,
+      one_planned rules t now c.loop-i.words c.loop-i.i c.run_cycle.result.schedule.word (omega arith) c.loop-i.invariant.0 c.run_cycle.ensures.word c.loop-i.invariant.1,
     )

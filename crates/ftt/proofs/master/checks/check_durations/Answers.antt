@@ -11,10 +11,10 @@ unfolding lowest
 loop-r-init c = refl
 
 pub loop-r-preserved : goal.loop-r-preserved
-loop-r-preserved c = lowest_skip c.loop-r.r _ c.loop-r.invariant (sym c.is-above.ensures ∙ c.if-is-above.false)
+loop-r-preserved c = lowest_skip c.loop-r.r _ c.loop-r.invariant (sym c.is_above.ensures ∙ c.if-is_above.false)
 
-pub returns-then-is-above : goal.returns-then-is-above
-returns-then-is-above c =
+pub returns-then-is_above : goal.returns-then-is_above
+returns-then-is_above c =
     let above : ℕ → Bool = λ k. used_and (λ row. ltb c.args.window row.figures.duration) (slots c.args.rows.now k) in
     ap (option_map (λ k. numbered 5 (k ∷ [])))
-    (sym (lowest_found 32 c.loop-r.r above c.loop-r.invariant (sym c.is-above.ensures ∙ c.if-is-above.true) c.loop-r-test.true))
+    (sym (lowest_found 32 c.loop-r.r above c.loop-r.invariant (sym c.is_above.ensures ∙ c.if-is_above.true) c.loop-r-test.true))

@@ -2,7 +2,7 @@
 // be asked of the master: the types see to it.
 ghost use Rattle.std.specs.Prelude.{◌≡◌};
 ghost use Rattle.rules.specs.Calls.{counted};
-ghost use Rattle.rules.specs.Calls.Report.{sent as is-sent, lost as is_lost};
+ghost use Rattle.rules.specs.Calls.Report.{sent as is_sent, lost as is_lost};
 
 use bus::rows::RowSet;
 
@@ -52,7 +52,7 @@ impl OwedTrigger {
     }
 
     pub fn sent(self) -> IdleWatch
-        ensures { result.lost ≡ counted is-sent self.lost }
+        ensures { result.lost ≡ counted is_sent self.lost }
     {
         let OwedTrigger {
             schedule: _,

@@ -2,12 +2,12 @@
 ghost use Rattle.std.specs.Prelude.{◌≡◌, ℕ};
 ghost use Rattle.bus.specs.Refusals.{answered, told};
 ghost use Rattle.rules.specs.Calls.{fresh};
-ghost use Rattle.rules.specs.Calls.Call.{next as next-call};
-ghost use Rattle.rules.specs.Calls.Report.{sent as was-sent};
+ghost use Rattle.rules.specs.Calls.Call.{next as next_call};
+ghost use Rattle.rules.specs.Calls.Report.{sent as was_sent};
 ghost use Rattle.ftt.specs.Told.{told_answer};
 ghost use Rattle.bus.specs.Frames.{frame_answer};
 ghost use Rattle.orders.specs.declared.selector.Selector.TheVariants.{RateMonotonic};
-ghost use Rattle.session.specs.Replies.Said.{refused as told-refused};
+ghost use Rattle.session.specs.Replies.Said.{refused as told_refused};
 ghost use Rattle.session.specs.Replies.{answers, by_answer, by_units, form_said, form_after, leaves, line_said, line_after, said, said_answer, standing_of, taken, told_reply};
 ghost use Rattle.session.specs.Sessions.{EverySession};
 
@@ -54,7 +54,7 @@ fn units(cycle_bits: u16, data_bytes: u8) -> Result<Reply, Refusal>
 
 // The refusal, with the number of the line that it came from.
 fn refused(number: u32, refusal: Refusal) -> Reply
-    ensures { said result ≡ told-refused number (told refusal) }
+    ensures { said result ≡ told_refused number (told refusal) }
 {
     Reply::Line(Answer::Refused(Fault::from((number, refusal))))
 }
@@ -120,8 +120,8 @@ impl Session {
 
     // Runs one cycle; its trigger counts as sent.
     pub fn cycle(self) -> (Session, Answer)
-        ensures value { said_answer result.1 ≡ by_answer 0 (answers (standing_of self) (next-call was-sent)) }
-        ensures after { standing_of result.0 ≡ leaves (standing_of self) (next-call was-sent) }
+        ensures value { said_answer result.1 ≡ by_answer 0 (answers (standing_of self) (next_call was_sent)) }
+        ensures after { standing_of result.0 ≡ leaves (standing_of self) (next_call was_sent) }
     {
         let Session { mut master, watch } = self;
         let owed = master.next(watch);

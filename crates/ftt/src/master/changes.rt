@@ -2,7 +2,7 @@
 // meanwhile, and is made whole or not at all.
 ghost use Rattle.std.specs.Prelude.{◌≡◌};
 ghost use Rattle.rules.specs.Calls.{answer, after};
-ghost use Rattle.rules.specs.Calls.Call.{add as to-add, alter as to-alter, drop as to_drop, set_window, set_policy};
+ghost use Rattle.rules.specs.Calls.Call.{add as to_add, alter as to_alter, drop as to_drop, set_window, set_policy};
 ghost use Rattle.ftt.specs.Held.{stands};
 ghost use Rattle.ftt.specs.Told.{told_answer};
 
@@ -16,8 +16,8 @@ use orders::policy::Policy;
 impl<P: Policy> Master<P> {
     // A message on a row that is free.
     pub fn add(&mut self, watch: &IdleWatch, row: u8, figures: Figures) -> Result<(), Refusal>
-        ensures answer { told_answer result ≡ answer P.Policy.goes 32 5040 (stands self.old watch.now) (to-add row figures) }
-        ensures after { stands self.new watch.now ≡ after P.Policy.goes 32 5040 (stands self.old watch.now) (to-add row figures) }
+        ensures answer { told_answer result ≡ answer P.Policy.goes 32 5040 (stands self.old watch.now) (to_add row figures) }
+        ensures after { stands self.new watch.now ≡ after P.Policy.goes 32 5040 (stands self.old watch.now) (to_add row figures) }
     {
         self.judge_add(row, figures)?;
         self.rows[usize::from(row)] = Some(new_row(figures));
@@ -26,8 +26,8 @@ impl<P: Policy> Master<P> {
 
     // Another message in the place of the row's. An instance that waits is withdrawn.
     pub fn alter(&mut self, watch: &IdleWatch, row: u8, figures: Figures) -> Result<(), Refusal>
-        ensures answer { told_answer result ≡ answer P.Policy.goes 32 5040 (stands self.old watch.now) (to-alter row figures) }
-        ensures after { stands self.new watch.now ≡ after P.Policy.goes 32 5040 (stands self.old watch.now) (to-alter row figures) }
+        ensures answer { told_answer result ≡ answer P.Policy.goes 32 5040 (stands self.old watch.now) (to_alter row figures) }
+        ensures after { stands self.new watch.now ≡ after P.Policy.goes 32 5040 (stands self.old watch.now) (to_alter row figures) }
     {
         self.judge_alter(row, figures)?;
         let place = usize::from(row);

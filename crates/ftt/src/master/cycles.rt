@@ -1,7 +1,7 @@
 // The life of a master: its start and its cycles.
 ghost use Rattle.std.specs.Prelude.{◌≡◌};
 ghost use Rattle.rules.specs.Calls.{Report, answer, after, counted, fresh};
-ghost use Rattle.rules.specs.Calls.Call.{next as next-call};
+ghost use Rattle.rules.specs.Calls.Call.{next as next_call};
 ghost use Rattle.rules.specs.Calls.Answer.{schedule as scheduled};
 ghost use Rattle.ftt.specs.Held.{stands, standing};
 ghost use Rattle.rules.specs.Promise.{Promise, RoundsKnown};
@@ -32,8 +32,8 @@ impl<P: Policy> Master<P> {
 
     // Runs the next elementary cycle, whose trigger is then owed.
     pub fn next(&mut self, watch: IdleWatch) -> OwedTrigger
-        ensures answer { (report : Report) → scheduled result.schedule.word ≡ answer P.Policy.goes 32 5040 (stands self.old watch) (next-call report) }
-        ensures after { (report : Report) → standing self.new (counted report result.lost) ≡ after P.Policy.goes 32 5040 (stands self.old watch) (next-call report) }
+        ensures answer { (report : Report) → scheduled result.schedule.word ≡ answer P.Policy.goes 32 5040 (stands self.old watch) (next_call report) }
+        ensures after { (report : Report) → standing self.new (counted report result.lost) ≡ after P.Policy.goes 32 5040 (stands self.old watch) (next_call report) }
         ensures kept { result.lost ≡ watch.lost }
     {
         let mut rows = self.rows;

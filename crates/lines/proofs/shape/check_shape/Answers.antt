@@ -1,7 +1,7 @@
 use Rattle.std.proofs.Common.{◌≡◌, Some, Ok, Err, sym, ap, ◌∙◌}
 use Rattle.std.proofs.lemmas.Result.{err_from_is_err_and}
 use Rattle.std.proofs.lemmas.Bool.{cond-true}
-use Rattle.bus.specs.Refusals.{told as refusal-told}
+use Rattle.bus.specs.Refusals.{told as refusal_told}
 use Rattle.lines.specs.declared.shape.Stage.TheVariants.{Opening}
 use Rattle.lines.specs.Shapes.{misplaced}
 use Rattle.lines.specs.Reading.{unless, bad_sign}
@@ -15,7 +15,7 @@ returns-in-err-stage c =
     let here = declines _ _ c.loop-stage.stage (sym c.loop-stage-test.ensures) told.1 in
     let same = c.loop-stage.invariant.0 in
     let found : misplaced Opening 0 c.args.line.now ≡ Some c.loop-stage.reader.at = cc in
-    rw (p.1, p.2) (ap (λ e. Err (refusal-told e)) told.0 ∙ ap (λ o. unless bad_sign o (Ok tt)) (sym found))
+    rw (p.1, p.2) (ap (λ e. Err (refusal_told e)) told.0 ∙ ap (λ o. unless bad_sign o (Ok tt)) (sym found))
 
 pub loop-stage-preserved : goal.loop-stage-preserved
 loop-stage-preserved c =

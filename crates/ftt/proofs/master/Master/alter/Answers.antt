@@ -21,10 +21,12 @@ returns-in_err-judge_alter g c =
 pub invariant_of-self : goal.invariant_of-self
 invariant_of-self g c =
     let s = stands c.args.self.now c.args.watch.now in
-    let new_sound = altered_sound g.P.Policy.goes 32 5040 s c.args.row c.args.figures (c.in_ok-judge_alter.ensures.refusal c.args.watch.now.lost) in (
-      length-set c.args.self.now.rows _ _ ∙ c.args.self.now.long,
-      (set_sound c.args.self.now.rows _ (Some c.new_row.result) (ap sound c.new_row.ensures ∙ new_sound) c.args.self.now.sound, (c.args.self.now.«open», tt)),
-    )
+    let new_sound = altered_sound g.P.Policy.goes 32 5040 s c.args.row c.args.figures (c.in_ok-judge_alter.ensures.refusal c.args.watch.now.lost) in
+    record {
+      long = length-set c.args.self.now.rows _ _ ∙ c.args.self.now.long;
+      sound = set_sound c.args.self.now.rows _ (Some c.new_row.result) (ap sound c.new_row.ensures ∙ new_sound) c.args.self.now.sound;
+      «open» = c.args.self.now.«open»;
+    }
 
 pub returns : goal.returns
 unfolding step outcome

@@ -18,7 +18,11 @@ returns-in_err-judge_drop g c =
     record { answer = done.0; after = done.1 }
 
 pub invariant_of-self : goal.invariant_of-self
-invariant_of-self g c = (length-set c.args.self.now.rows _ _ ∙ c.args.self.now.long, (set_sound c.args.self.now.rows _ None refl c.args.self.now.sound, (c.args.self.now.«open», tt)))
+invariant_of-self g c = record {
+  long = length-set c.args.self.now.rows _ _ ∙ c.args.self.now.long;
+  sound = set_sound c.args.self.now.rows _ None refl c.args.self.now.sound;
+  «open» = c.args.self.now.«open»;
+}
 
 pub returns : goal.returns
 unfolding step outcome

@@ -7,7 +7,7 @@ use Rattle.ftt.proofs.master.Master.new.Goals as goal
 
 pub invariant_of-master : goal.invariant_of-master
 unfolding all_sound
-invariant_of-master g c = (refl, (refl, (omega arith, tt)))
+invariant_of-master g c = record { long = refl; sound = refl; «open» = omega arith }
 
 pub returns : goal.returns
 returns g c =

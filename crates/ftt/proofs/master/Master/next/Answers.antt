@@ -5,7 +5,11 @@ use Rattle.ftt.proofs.Standing.{same_state}
 use Rattle.ftt.proofs.master.Master.next.Goals as goal
 
 pub invariant_of-self : goal.invariant_of-self
-invariant_of-self g c = (omega arith, (cycled_sound _ c.args.self.now.rows _ c.run_cycle-outcome.ensures.after c.args.self.now.sound, (c.args.self.now.«open», tt)))
+invariant_of-self g c = record {
+  long = omega arith;
+  sound = cycled_sound _ c.args.self.now.rows _ c.run_cycle-outcome.ensures.after c.args.self.now.sound;
+  «open» = c.args.self.now.«open»;
+}
 
 pub returns : goal.returns
 unfolding step

@@ -16,7 +16,7 @@ returns-in_err-judge_window g c =
     record { answer = done.0; after = done.1 }
 
 pub invariant_of-self : goal.invariant_of-self
-invariant_of-self g c = (c.args.self.now.long, (c.args.self.now.sound, (c.in_ok-judge_window.ensures.opens, tt)))
+invariant_of-self g c = record { long = c.args.self.now.long; sound = c.args.self.now.sound; «open» = c.in_ok-judge_window.ensures.opens }
 
 pub returns : goal.returns
 unfolding step outcome

@@ -8,7 +8,7 @@ returns-then-value-from c =
     let bs = c.args.digits.now in
     let i = c.loop-digit.digit-index in
     let e = digit_more bs c.loop-digit.value i (omega arith) in
-    let sub = c.saturating-sub.ensures in
+    let sub = c.saturating_sub.ensures in
     let same = c.from.ensures in
     past c.args.most (c.loop-digit.value * 10 + c.from.result) (i + 1) bs ((cc)) (omega arith)
 
@@ -20,4 +20,4 @@ loop-digit-preserved c =
 pub returns : goal.returns
 returns c =
     whole c.args.most c.loop-digit.value c.loop-digit.digit-index c.args.digits.now
-    (sym c.if-has-needless-zero.ensures) c.loop-digit.invariant.0 (omega arith) c.loop-digit.invariant.1
+    (sym c.if-has_needless_zero.ensures) c.loop-digit.invariant.0 (omega arith) c.loop-digit.invariant.1

@@ -8,10 +8,10 @@ use Rattle.lines.specs.Reading.{unless, bad_sign}
 use Rattle.lines.proofs.Scan.{goes_on, goes_over, declines, ends}
 use Rattle.lines.proofs.shape.check_shape.Goals as goal
 
-pub returns-in-err-stage : goal.returns-in-err-stage
-returns-in-err-stage c =
-    let p = err_from_is_err_and c.from-residual.result c.from-residual.ensures.1 in
-    let told = c.in-err-stage.ensures.takes in
+pub returns-in_err-stage : goal.returns-in_err-stage
+returns-in_err-stage c =
+    let p = err_from_is_err_and c.from_residual.result c.from_residual.ensures.1 in
+    let told = c.in_err-stage.ensures.takes in
     let here = declines _ _ c.loop-stage.stage (sym c.loop-stage-test.ensures) told.1 in
     let same = c.loop-stage.invariant.0 in
     let found : misplaced Opening 0 c.args.line.now ≡ Some c.loop-stage.reader.at = cc in
@@ -19,7 +19,7 @@ returns-in-err-stage c =
 
 pub loop-stage-preserved : goal.loop-stage-preserved
 loop-stage-preserved c =
-    let told = c.in-ok-stage.ensures.takes in
+    let told = c.in_ok-stage.ensures.takes in
     let same = c.take.ensures.same in
     let on = goes_on _ _ _ _ told.0 told.2 in
     ((cc), (cc))

@@ -9,9 +9,9 @@ returns c =
     let digits = decimal c.args.number in
     let after = c.args.after.now in
     let end = 10 ∷ [] in
-    let first = further [] before c.new-text.ensures c.push-all.ensures in
-    let second = further before digits first c.push-number.ensures in
-    let third = further (before ++ digits) after second c.push-all-2.ensures in
+    let first = further [] before c.new-text.ensures c.push_all.ensures in
+    let second = further before digits first c.push_number.ensures in
+    let third = further (before ++ digits) after second c.push_all-2.ensures in
     further ((before ++ digits) ++ after) end third c.push.ensures
     ∙ whole (((before ++ digits) ++ after) ++ end) (
     omega (

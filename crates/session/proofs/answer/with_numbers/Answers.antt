@@ -11,11 +11,11 @@ returns c =
     let n = decimal c.args.second in
     let z = c.args.after.now in
     let end = 10 ∷ [] in
-    let one = further [] a c.new-text.ensures c.push-all.ensures in
-    let two = further a m one c.push-number.ensures in
-    let three = further (a ++ m) b two c.push-all-2.ensures in
-    let four = further ((a ++ m) ++ b) n three c.push-number-2.ensures in
-    let five = further (((a ++ m) ++ b) ++ n) z four c.push-all-3.ensures in
+    let one = further [] a c.new-text.ensures c.push_all.ensures in
+    let two = further a m one c.push_number.ensures in
+    let three = further (a ++ m) b two c.push_all-2.ensures in
+    let four = further ((a ++ m) ++ b) n three c.push_number-2.ensures in
+    let five = further (((a ++ m) ++ b) ++ n) z four c.push_all-3.ensures in
     further ((((a ++ m) ++ b) ++ n) ++ z) end five c.push.ensures
     ∙ whole (((((a ++ m) ++ b) ++ n) ++ z) ++ end) (
     omega (

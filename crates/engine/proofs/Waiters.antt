@@ -16,6 +16,37 @@ pub waiters_more : (n : ℕ) (t : Slots) → waiters (n + 1) t ≡ waiters n t +
 unfolding waiters
 waiters_more n t = ap (λ m. waiters m t) (add-one n)
 
+-- a row adds at most one, with its own number
+waiter_short : (n : ℕ) (o : Option Row) → length (waiter n o) ≤ 1
+waiter_short n None = omega arith
+waiter_short n (Some row) = elim (waits row) as (λ b. length (cond b (instance_of n row ∷ []) []) ≤ 1) [ true ↦ omega arith | false ↦ omega arith ]
+
+waiter_row : (n : ℕ) (o : Option Row) (k : ℕ) → k < length (waiter n o) → (get_or (waiter n o) k no_instance).row ≡ n
+waiter_row n None k h = absurd (omega arith)
+waiter_row n (Some row) k h = go (waits row) k h
+  where
+    go : (b : Bool) (k : ℕ) → k < length (cond b (instance_of n row ∷ []) []) → (get_or (cond b (instance_of n row ∷ []) []) k no_instance).row ≡ n
+    go true zero h = refl
+    go true (suc k) h = absurd (omega arith)
+    go false k h = absurd (omega arith)
+
+pub length_waiters : (n : ℕ) (t : Slots) → length (waiters n t) ≤ n
+unfolding waiters
+length_waiters zero t = omega arith
+length_waiters (suc n) t = omega (arith, length-append (waiters n t) (waiter n (t n)), length_waiters n t, waiter_short n (t n))
+
+-- the rows of the first n are below n
+pub row_below : (n : ℕ) (t : Slots) (k : ℕ) → k < length (waiters n t) → (get_or (waiters n t) k no_instance).row < n
+unfolding waiters
+row_below zero t k h = absurd (omega arith)
+row_below (suc n) t k h =
+    elim (cases_lt k (length (waiters n t))) [
+      | inl below ↦ omega (arith, ap (λ i. i.row) (get_or_append_left (waiters n t) (waiter n (t n)) no_instance k below), row_below n t k below)
+      | inr past ↦
+          let place : k - length (waiters n t) < length (waiter n (t n)) = omega (arith, length-append (waiters n t) (waiter n (t n))) in
+          omega (arith, ap (λ i. i.row) (get_or-append_right (waiters n t) (waiter n (t n)) (length (waiters n t)) k no_instance refl past), waiter_row n (t n) (k - length (waiters n t)) place)
+    ]
+
 -- what row r adds
 module _ (r : ℕ) (t : Slots) where
   pub waiters_stay : [] ≡ waiter r (t r) → waiters (r + 1) t ≡ waiters r t
@@ -24,6 +55,13 @@ module _ (r : ℕ) (t : Slots) where
   module _ (x : Instance) (adds : x ∷ [] ≡ waiter r (t r)) where
     pub waiters_push : waiters (r + 1) t ≡ waiters r t ++ x ∷ []
     waiters_push = waiters_more r t ∙ ap (λ is. waiters r t ++ is) (sym adds)
+
+    -- its row is above those before it
+    pub row_apart : (k : ℕ) → k < length (waiters r t) → (get_or (waiters r t) k no_instance).row ≢ x.row
+    row_apart k h =
+        let own : x.row ≡ r = ap (λ is. (get_or is 0 no_instance).row) adds ∙ waiter_row r (t r) 0 (omega (arith, ap length adds)) in
+        let below = row_below r t k h in
+        omega arith
 
 -- the instance of a waiting row stands after those of the rows below it
 pub waiter_place : (n r : ℕ) (t : Slots) (x : Instance) → r < n → x ∷ [] ≡ waiter r (t r) → length (waiters r t) < length (waiters n t)

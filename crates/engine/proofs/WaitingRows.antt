@@ -9,7 +9,7 @@ use Rattle.bus.specs.Rows.{member, members, word_of}
 use Rattle.bus.proofs.Words.{members_word_of, get_or_members, word_of_members, members_by_rows, word_of_set, word_of_left, word_of_below, length_members, member_suc, no_member_past}
 use Rattle.engine.specs.Cycle.{Slots}
 use Rattle.engine.specs.Rehearsal.{every, settled}
-use Rattle.engine.specs.Waiting.{waits_at}
+use Rattle.engine.specs.Waiting.{waits_at, waiting_word}
 use Rattle.engine.proofs.Tests.{every_at}
 
 module _ (test : ℕ → Bool) where
@@ -50,6 +50,24 @@ member_word test n r h =
 
 pub word_fits : (test : ℕ → Bool) (n : ℕ) → word_of (map test (range_with_len 0 n)) < 2 ^ n
 word_fits test n = subst (λ m. word_of (map test (range_with_len 0 n)) < 2 ^ m) (length-map-range_with_len test 0 n) (word_of_below (map test (range_with_len 0 n)))
+
+-- the word of the waiting rows, row by row
+pub waiting_none : (t : Slots) → waiting_word 0 t ≡ 0
+unfolding waiting_word
+waiting_none t = word_none (waits_at t)
+
+pub waiting_set : (t : Slots) (r : ℕ) → r < 32 → waits_at t r ≡ true → bit_or (waiting_word r t) ((1 * 2 ^ r) % 2 ^ 32) ≡ waiting_word (r + 1) t
+unfolding waiting_word
+waiting_set t = word_set (waits_at t)
+
+pub waiting_left : (t : Slots) (r : ℕ) → r < 32 → waits_at t r ≡ false → waiting_word r t ≡ waiting_word (r + 1) t
+unfolding waiting_word
+waiting_left t = word_left (waits_at t)
+
+-- it has exactly the waiting rows
+pub member_waiting : (n : ℕ) (t : Slots) (r : ℕ) → r < n → member (waiting_word n t) r ≡ waits_at t r
+unfolding waiting_word
+member_waiting n t = member_word (waits_at t) n
 
 -- words that have the same rows are equal
 pub words_agree : (n a b : ℕ) → a < 2 ^ n → b < 2 ^ n → ((k : ℕ) → k < n → member a k ≡ member b k) → a ≡ b
@@ -147,7 +165,11 @@ all_within n start end below_start below_end = go (every n (within start end)) r
         (λ k h. in_both (member start k) (member end k) (sym (member_and start end k) ∙ ap (λ w. member w k) same))))
 
 -- of words that have the waiting rows of two tables, that is the settled test
-pub settled_by_words : (n start end : ℕ) (a b : Slots) → ((k : ℕ) → k < n → member start k ≡ waits_at a k) → ((k : ℕ) → k < n → member end k ≡ waits_at b k) → every n (within start end) ≡ settled n a b
+pub settled_by_members : (n start end : ℕ) (a b : Slots) → ((k : ℕ) → k < n → member start k ≡ waits_at a k) → ((k : ℕ) → k < n → member end k ≡ waits_at b k) → every n (within start end) ≡ settled n a b
 unfolding settled
-settled_by_words n start end a b is_a is_b =
+settled_by_members n start end a b is_a is_b =
     every_like n (within start end) (λ r. not (waits_at b r) || waits_at a r) (λ r h. ap₂ (λ x y. not y || x) (is_a r h) (is_b r h))
+
+pub settled_by_words : (n start end : ℕ) (a b : Slots) → start ≡ waiting_word n a → end ≡ waiting_word n b → every n (within start end) ≡ settled n a b
+settled_by_words n start end a b is_a is_b =
+    settled_by_members n start end a b (λ r h. ap (λ w. member w r) is_a ∙ member_waiting n a r h) (λ r h. ap (λ w. member w r) is_b ∙ member_waiting n b r h)

@@ -1,13 +1,14 @@
 -- The table as the code holds it, and what the steps of a cycle work out. Assumes nothing.
-use Rattle.std.specs.Prelude.{◌≡◌, ℕ, ◌+◌, ◌-◌, ◌<◌, ◌≤◌, true, cond, List, length, get_or, take, Some, None, sum_by, Option, nat_le, slice_index, slice_index_or}
+use Rattle.std.specs.Prelude.{◌≡◌, ℕ, ◌+◌, ◌-◌, ◌<◌, ◌≤◌, Bool, true, cond, ◌&&◌, List, map, length, get_or, take, Some, None, sum_by, Option, nat_le, slice_index, slice_index_or}
+use Rattle.std.specs.List.{range_with_len}
 use Rattle.std.specs.Option.{option_map}
 use Rattle.std.specs.List.Sorted.{IsPermutation}
-use Rattle.bus.specs.Rows.{member}
+use Rattle.bus.specs.Rows.{member, word_of}
 use Rattle.orders.specs.Laws.{Order}
 use Rattle.orders.specs.declared.instance.Instance.{Instance}
 use Rattle.engine.specs.declared.row.Row.{Row}
-use Rattle.engine.specs.Rows.{instance_of}
-use Rattle.engine.specs.Cycle.{Slots, Rules, fits}
+use Rattle.engine.specs.Rows.{instance_of, waits, closed, misses}
+use Rattle.engine.specs.Cycle.{Slots, Rules, used_and, waiters, load, fits}
 
 -- what each row of the list holds; past its end nothing
 abbrev pub slots : List (Option Row) → Slots
@@ -98,3 +99,34 @@ pub record Served (line : List Instance) (window n word : ℕ) (old new : List �
 -- no more than the first n of a line fit
 abbrev pub Full : List Instance → (window n : ℕ) → Type 0
 Full line window n = n < length line → window < total (take (n + 1) line)
+
+-- ROW BY ROW
+
+-- an instance's duration and those of all that go before it: the smallest window in which it is scheduled
+abbrev pub demand : Order → List Instance → Instance → ℕ
+demand goes all i = i.duration + load goes all i
+
+-- the numbers begin with the demands of the instances, in their order
+abbrev pub Demands : Order → List Instance → List ℕ → Type 0
+Demands goes all numbers = (k : ℕ) → k < length all → slice_index numbers k ≡ demand goes all (slice_index_or all k no_instance)
+
+-- an instance x is counted in the demands of those of the first n that it goes before; the numbers after them stay
+pub record CountedIn (goes : Order) (all : List Instance) (x : Instance) (n : ℕ) (old new : List ℕ) : Type 0 where
+  pub first : (k : ℕ) → k < n → slice_index new k ≡ slice_index old k + cond (goes (slice_index_or all k no_instance) x) 0 x.duration
+  pub rest : (k : ℕ) → n ≤ k → slice_index new k ≡ slice_index old k
+
+-- whether row r waits and the demand of its instance, which comes after those of the waiting rows below it, is within the window
+abbrev pub within : (demands : List ℕ) → (window : ℕ) → Slots → ℕ → Bool
+within demands window t r = used_and (λ row. waits row && nat_le (slice_index demands (length (waiters r t))) window) (t r)
+
+-- the table at the end of a cycle, by which rows were scheduled
+abbrev pub closed_by : (scheduled : ℕ → Bool) → Slots → Slots
+closed_by scheduled t r = option_map (closed (scheduled r)) (t r)
+
+-- which rows are late, by which were scheduled
+abbrev pub late_by : (scheduled : ℕ → Bool) → Slots → ℕ → Bool
+late_by scheduled t r = used_and (misses (scheduled r)) (t r)
+
+-- the word of the rows below n that pass a test
+unfoldable pub word_below : ℕ → (ℕ → Bool) → ℕ
+word_below n test = word_of (map test (range_with_len 0 n))

@@ -8,4 +8,5 @@ mod line;
 pub mod rehearsal;
 pub mod round;
 pub mod row;
+pub mod row_by_row;
 pub mod verdict;

@@ -1,10 +1,11 @@
 // What a rehearsal takes from the rows: the round, the lead-in, and the rows that wait.
 ghost use Rattle.std.specs.Prelude.{◌≡◌, ℕ, ◌%◌, ◌<◌, not, ◌&&◌, ◌||◌, ◌==◌};
 ghost use Rattle.bus.specs.Rows.{member};
-ghost use Rattle.engine.specs.Cycle.{Slots};
+ghost use Rattle.engine.specs.Rows.{waits};
+ghost use Rattle.engine.specs.Cycle.{Slots, used_and};
 ghost use Rattle.engine.specs.Rehearsal.{every, first_from, divided_by, round, lead_in, settled};
 ghost use Rattle.engine.specs.Held.{slots};
-ghost use Rattle.engine.specs.Waiting.{waits_at};
+ghost use Rattle.engine.specs.Waiting.{waits_at, waiting_word};
 
 use crate::counters::wait_of;
 use crate::row::Row;
@@ -54,6 +55,15 @@ pub fn round_of(rows: &[Option<Row>; ROWS]) -> Option<u16>
     Some(cycles)
 }
 
+fn row_waits(slot: Option<Row>) -> bool
+    ensures { result ≡ used_and waits slot }
+{
+    match slot {
+        Some(row) => row.waits(),
+        None => false,
+    }
+}
+
 // The lead-in: the greatest wait, after which every wait is below its period.
 pub fn lead_in(rows: &[Option<Row>; ROWS]) -> Cycles
     ensures { result ≡ lead_in 32 (slots rows.now) }
@@ -65,10 +75,25 @@ pub fn lead_in(rows: &[Option<Row>; ROWS]) -> Cycles
     greatest
 }
 
+// The rows that wait.
+pub fn waiting(rows: &[Option<Row>; ROWS]) -> RowSet
+    ensures value { result.word ≡ waiting_word 32 (slots rows.now) }
+    ensures each { (k : ℕ) → k < 32 → member result.word k ≡ waits_at (slots rows.now) k }
+{
+    let mut word = 0;
+    for r in 0..ROWS {
+        if row_waits(rows[r]) {
+            word |= 1 << r;
+        }
+    }
+    RowSet { word }
+}
+
 // Whether every row that waits at the end also waited at the start.
 pub fn has_settled(start: RowSet, end: RowSet) -> bool
     ensures value { result ≡ every 32 (λ k. not (member end.word k) || member start.word k) }
-    ensures tables { (a b : Slots) → ((k : ℕ) → k < 32 → member start.word k ≡ waits_at a k) → ((k : ℕ) → k < 32 → member end.word k ≡ waits_at b k) → result ≡ settled 32 a b }
+    ensures members { (a b : Slots) → ((k : ℕ) → k < 32 → member start.word k ≡ waits_at a k) → ((k : ℕ) → k < 32 → member end.word k ≡ waits_at b k) → result ≡ settled 32 a b }
+    ensures tables { (a b : Slots) → start.word ≡ waiting_word 32 a → end.word ≡ waiting_word 32 b → result ≡ settled 32 a b }
 {
     start.word & end.word == end.word
 }

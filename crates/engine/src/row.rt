@@ -1,6 +1,6 @@
 // A used row of the table: a message's figures, and its two counters.
 ghost use Rattle.std.specs.Prelude.{◌≡◌};
-ghost use Rattle.engine.specs.Rows.{instance_of};
+ghost use Rattle.engine.specs.Rows.{instance_of, released, waits, closed, misses};
 
 use orders::instance::{Cycles, Instance};
 
@@ -41,5 +41,49 @@ impl Row {
             priority: self.figures.priority,
             left: self.left,
         }
+    }
+
+    // A row whose wait is over releases an instance.
+    pub fn release(self) -> Row
+        ensures { result ≡ released self }
+    {
+        if self.wait == 0 {
+            Row {
+                figures: self.figures,
+                wait: self.figures.period,
+                left: self.figures.deadline,
+            }
+        } else {
+            self
+        }
+    }
+
+    pub fn waits(self) -> bool
+        ensures { result ≡ waits self }
+    {
+        self.left > 0
+    }
+
+    // The row at the end of a cycle in which it was scheduled or not.
+    pub fn close(self, scheduled: bool) -> Row
+        ensures { result ≡ closed scheduled self }
+    {
+        let left = if scheduled {
+            0
+        } else {
+            self.left.saturating_sub(1)
+        };
+        Row {
+            figures: self.figures,
+            wait: self.wait.saturating_sub(1),
+            left,
+        }
+    }
+
+    // Whether the cycle's end finds the instance unscheduled and its deadline reached.
+    pub fn misses(self, scheduled: bool) -> bool
+        ensures { result ≡ misses scheduled self }
+    {
+        !scheduled & (self.left == 1)
     }
 }

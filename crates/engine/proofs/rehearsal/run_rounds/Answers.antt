@@ -31,7 +31,7 @@ returns-then-has_settled g c =
     let on = c.in_default.ensures so_far.0 so_far.1 in
     let left = 4 - (c.loop-done._done + 1) in
     let next = then_on rules c.args.round left c.loop-done.coming so_far.0 in
-    let ended = c.if-has_settled.ensures.tables so_far.0 on.0
+    let ended = c.if-has_settled.ensures.members so_far.0 on.0
     (λ k h. c.waiting-start.ensures k h ∙ stands_waits _ _ _ so_far.0 so_far.1 k h) (λ k h. c.waiting.ensures k h ∙ stands_waits _ _ _ on.0 on.1 k h) in
     sym (so_far.2 ∙ next_round rules c.args.round c.loop-done._done c.loop-done.coming so_far.0 c.loop-done-test.true ∙ on.2 next
     ∙ settles rules c.args.round left c.loop-done.coming so_far.0 on.0 (sym ended))
@@ -45,7 +45,7 @@ loop-done-preserved g c =
           let so_far = c.loop-done.invariant.1 t was in
           let on = c.in_default.ensures so_far.0 so_far.1 in
           let next = then_on rules c.args.round left c.loop-done.coming so_far.0 in
-          let ended = c.if-has_settled.ensures.tables so_far.0 on.0
+          let ended = c.if-has_settled.ensures.members so_far.0 on.0
           (λ k h. c.waiting-start.ensures k h ∙ stands_waits _ _ _ so_far.0 so_far.1 k h) (λ k h. c.waiting.ensures k h ∙ stands_waits _ _ _ on.0 on.1 k h) in (
             on.0,
             on.1,

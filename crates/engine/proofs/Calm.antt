@@ -1,15 +1,10 @@
 -- A table that settled is never late. Assumes nothing.
-use Rattle.std.proofs.Common.{◌≡◌, ℕ, zero, suc, ◌+◌, ◌-◌, ◌*◌, ◌<◌, ◌≤◌, Bool, true, false, cond, not, ◌||◌, Some, None, Option, sym, refl, ap, ◌∙◌, subst, ⊎_elim, le_refl, zero-add, arith}
-use Rattle.std.specs.Option.{option_map}
-use Rattle.std.proofs.lemmas.Bool.{cases_Bool, cases_lt, false≢true, both_ways}
-use Rattle.std.proofs.lemmas.Bool.Decides.{nat_tests}
+use Rattle.std.proofs.Common.{◌≡◌, ℕ, zero, suc, ◌+◌, ◌-◌, ◌<◌, ◌≤◌, true, false, ap, ◌∙◌, subst, ⊎_elim, le_refl, zero-add, arith}
+use Rattle.std.proofs.lemmas.Bool.{cases_Bool, cases_lt, both_ways}
 use Rattle.orders.specs.Laws.{Order}
-use Rattle.engine.specs.declared.row.Row.{Row}
-use Rattle.engine.specs.Rows.{waits, sound}
-use Rattle.engine.specs.Cycle.{Slots, Rules, used_and, cycle, late, late_row, after}
-use Rattle.engine.specs.Comparison.{SoundSlot, Sound, SameOrDone, LighterSlot, Lighter, Calm}
+use Rattle.engine.specs.Cycle.{Slots, Rules, cycle, late, after}
+use Rattle.engine.specs.Comparison.{Sound, Lighter, Calm}
 use Rattle.engine.proofs.Lighter.{cycle_sound, cycle_lighter, late_lighter}
-use Rattle.engine.proofs.Turns.{Holds, wait_after, wait_turns, after_holds, after_empty}
 
 pub after_sound : (rules : Rules) (k : ℕ) (t : Slots) → Sound t → Sound (after rules k t)
 unfolding after

@@ -1,7 +1,7 @@
 -- What each verdict of a rehearsal says of the cycles to come. Assumes nothing.
-use Rattle.std.proofs.Common.{◌≡◌, ℕ, zero, suc, ◌+◌, ◌-◌, ◌*◌, ◌/◌, ◌%◌, ◌<◌, ◌≤◌, max, Bool, true, false, cond, not, ◌||◌, eqb, ◌⊎◌, Some, None, Option, sym, refl, ap, ◌∙◌, subst, subst₂, inl, inr, ⊎_elim, add-zero, add_assoc, div-add-mod', zero-add, one-add, arith}
+use Rattle.std.proofs.Common.{◌≡◌, ℕ, zero, suc, ◌+◌, ◌-◌, ◌*◌, ◌/◌, ◌%◌, ◌<◌, ◌≤◌, Bool, true, false, eqb, ◌⊎◌, Some, None, Option, sym, refl, ap, ◌∙◌, subst, subst₂, inl, inr, ⊎_elim, add-zero, add_assoc, div-add-mod', one-add, arith}
 use Rattle.std.specs.Option.{option_map}
-use Rattle.std.proofs.lemmas.Bool.{cases_Bool, cases_lt, cases_eq, false≢true, both_ways, eqb-true}
+use Rattle.std.proofs.lemmas.Bool.{cases_lt, cases_eq, false≢true, eqb-true}
 use Rattle.std.proofs.lemmas.Bool.Decides.{nat_tests}
 use Rattle.orders.specs.Laws.{Order}
 use Rattle.engine.specs.declared.row.Row.{Row}
@@ -9,12 +9,11 @@ use Rattle.engine.specs.declared.verdict.Verdict.{Verdict}
 use Rattle.engine.specs.declared.verdict.Verdict.TheVariants.{Settled, Late, Unsettled}
 use Rattle.engine.specs.Rows.{released, waits, misses, sound}
 use Rattle.engine.specs.Cycle.{Slots, Rules, used_and, release, scheduled, cycle, late, late_row, after}
-use Rattle.engine.specs.Comparison.{SoundSlot, Sound, SameOrDone, LighterSlot, Lighter, Calm, FirstLate}
+use Rattle.engine.specs.Comparison.{SoundSlot, Sound, LighterSlot, Lighter, Calm, FirstLate}
 use Rattle.engine.specs.Known.{SameTurn, WaitsComeBack}
 use Rattle.engine.specs.Rehearsal.{every, divided_by, round, wait_of, lead_in, settled, stretch, rounds, verdict}
 use Rattle.engine.proofs.Calm.{after_sound, after_add, CalmFor, calm_when_lighter, calm_before}
 use Rattle.engine.proofs.Firsts.{first_some}
-use Rattle.engine.proofs.Lighter.{cycle_sound}
 use Rattle.engine.proofs.Stretches.{begins}
 use Rattle.engine.proofs.Tests.{lowest_none, every_at}
 use Rattle.engine.proofs.Turns.{Holds, wait_after, wait_turns, wait_stays, wait_arrives, after_holds, after_empty}

@@ -1,9 +1,8 @@
-use Rattle.std.proofs.Common.{◌≡◌, ℕ, ◌+◌, ◌-◌, ◌^◌, ◌<◌, ◌≤◌, Bool, eqb, List, get_or, sym, refl, ap, ◌∙◌, subst, arith}
-use lib.Bits.{bit_and, and_le_r}
+use Rattle.std.proofs.Common.{◌≡◌, ℕ, ◌+◌, ◌-◌, ◌^◌, ◌<◌, Bool, eqb, List, get_or, refl, subst, arith}
+use lib.Bits.{and_le_r}
 use lib.Count.{count_trailing_zeros}
-use Rattle.orders.specs.declared.instance.Instance.{Instance}
-use Rattle.engine.proofs.Columns.{ReleasedBelow, released_none, released_past, released_due, stands_released}
-use Rattle.engine.proofs.Lowest.{Next, RestOf, rest_whole, next_row, none_left, skipped}
+use Rattle.engine.proofs.Columns.{released_none, released_past, released_due, stands_released}
+use Rattle.engine.proofs.Lowest.{RestOf, rest_whole, next_row, none_left}
 use Rattle.engine.proofs.counters.release.Goals as goal
 
 abbrev due : List ℕ → ℕ → Bool

@@ -1,4 +1,4 @@
-use Rattle.std.proofs.Common.{◌≡◌, ℕ, ◌<◌, take, sym, ◌∙◌, arith}
+use Rattle.std.proofs.Common.{◌≡◌, ℕ, ◌<◌, take, sym, ◌∙◌}
 use Rattle.bus.specs.Rows.{member}
 use Rattle.engine.specs.Cycle.{Slots, release, scheduled, word}
 use Rattle.engine.specs.Held.{rules_of, Stands}

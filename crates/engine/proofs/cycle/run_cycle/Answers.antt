@@ -1,4 +1,4 @@
-use Rattle.std.proofs.Common.{◌∙◌, arith}
+use Rattle.std.proofs.Common.{◌∙◌}
 use Rattle.engine.specs.Held.{slots, rules_of}
 use Rattle.engine.proofs.Columns.{stands_first, counted_is_cycle}
 use Rattle.engine.proofs.WindowSum.{window_kept}

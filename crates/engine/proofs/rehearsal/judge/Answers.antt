@@ -1,5 +1,5 @@
-use Rattle.std.proofs.Common.{◌∙◌, arith}
-use Rattle.engine.specs.Held.{slots, rules_of}
+use Rattle.std.proofs.Common.{◌∙◌}
+use Rattle.engine.specs.Held.{slots}
 use Rattle.engine.proofs.Columns.{stands_first}
 use Rattle.engine.proofs.Stretches.{verdict_by_lead, verdict_by_rounds}
 use Rattle.engine.proofs.rehearsal.judge.Goals as goal

@@ -1,7 +1,5 @@
-use Rattle.std.proofs.Common.{◌≡◌, ℕ, ◌+◌, ◌-◌, ◌<◌, sym, refl, ◌∙◌, arith}
-use Rattle.bus.specs.Rows.{member}
+use Rattle.std.proofs.Common.{◌+◌, ◌-◌, sym, refl, ◌∙◌, arith}
 use Rattle.engine.specs.Held.{rules_of}
-use Rattle.engine.specs.Waiting.{waits_at}
 use Rattle.engine.proofs.Columns.{stands_waits}
 use Rattle.engine.proofs.Stretches.{then_on, next_round, no_round, settles, goes_round}
 use Rattle.engine.proofs.rehearsal.run_rounds.Goals as goal

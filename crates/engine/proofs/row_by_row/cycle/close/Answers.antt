@@ -3,7 +3,7 @@ use lib.Bits.{bit_or}
 use mir.Val.{bool_byte}
 use Rattle.std.specs.Option.{option_or}
 use Rattle.std.specs.Bool.{then_some}
-use Rattle.engine.specs.Rows.{closed, waits}
+use Rattle.engine.specs.Rows.{closed}
 use Rattle.engine.specs.Cycle.{lowest}
 use Rattle.engine.specs.Held.{slots, within, late_by, word_below}
 use Rattle.engine.proofs.Closing.{closed_none, closed_empty, closed_used, closed_as}

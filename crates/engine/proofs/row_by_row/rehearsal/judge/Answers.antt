@@ -1,5 +1,4 @@
-use Rattle.std.proofs.Common.{sym, ◌∙◌}
-use Rattle.engine.specs.Held.{slots, rules_of}
+use Rattle.std.proofs.Common.{◌∙◌}
 use Rattle.engine.proofs.Stretches.{verdict_by_lead, verdict_by_rounds}
 use Rattle.engine.proofs.row_by_row.rehearsal.judge.Goals as goal
 

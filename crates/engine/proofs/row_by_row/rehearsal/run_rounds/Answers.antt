@@ -1,9 +1,6 @@
-use Rattle.std.proofs.Common.{◌≡◌, ◌+◌, ◌-◌, true, false, sym, ◌∙◌, arith}
-use Rattle.engine.specs.Cycle.{Rules}
+use Rattle.std.proofs.Common.{◌+◌, ◌-◌, sym, ◌∙◌, arith}
 use Rattle.engine.specs.Held.{slots, rules_of}
-use Rattle.engine.specs.Rehearsal.{rounds, settled, stretch}
 use Rattle.engine.proofs.Stretches.{then_on, next_round, no_round, settles, goes_round}
-use Rattle.engine.proofs.row_by_row.rehearsal.run_rounds.Given as given
 use Rattle.engine.proofs.row_by_row.rehearsal.run_rounds.Goals as goal
 use Rattle.engine.proofs.row_by_row.rehearsal.run_rounds.Goals.{In-Some, In_default, Then-has_settled, Else-has_settled}
 

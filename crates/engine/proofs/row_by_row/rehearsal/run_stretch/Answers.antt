@@ -1,5 +1,5 @@
-use Rattle.std.proofs.Common.{◌+◌, ◌-◌, sym, ap, ◌∙◌, ap₂, add_assoc, arith}
-use Rattle.engine.specs.Held.{slots, rules_of}
+use Rattle.std.proofs.Common.{◌+◌, ◌-◌, sym, ◌∙◌, ap₂, add_assoc}
+use Rattle.engine.specs.Held.{rules_of}
 use Rattle.engine.specs.Rehearsal.{stretch}
 use Rattle.engine.proofs.Stretches.{ends_late, goes_on, is_over}
 use Rattle.engine.proofs.row_by_row.rehearsal.run_stretch.Goals as goal

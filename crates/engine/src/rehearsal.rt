@@ -18,7 +18,7 @@ use orders::instance::{Cycles, Instance};
 use orders::policy::Policy;
 
 // A table that has not settled after so many rounds is not waited for any longer.
-const MOST_ROUNDS: u32 = 4;
+pub(crate) const MOST_ROUNDS: u32 = 4;
 
 // Runs so many cycles, the first of which has the number `coming`; a late row ends them.
 fn run_stretch<P: Policy>(

@@ -5,6 +5,7 @@ ghost use Rattle.engine.specs.Cycle.{cycle, late_row, load, lowest, release, wai
 ghost use Rattle.engine.specs.Load.{scheduled_units};
 ghost use Rattle.engine.specs.Held.{slots, rules_of, CountedIn, Demands, within, closed_by, late_by, word_below};
 
+use crate::counters::NO_INSTANCE;
 use crate::cycle::Outcome;
 use crate::row::Row;
 use bus::rows::{ROWS, RowSet};
@@ -61,16 +62,6 @@ fn waiting_instance(slot: Option<Row>, row: u8) -> Option<Instance>
         _ => None,
     }
 }
-
-// Fills the places that no instance has taken.
-const NO_INSTANCE: Instance = Instance {
-    row: 0,
-    duration: 0,
-    period: 0,
-    deadline: 0,
-    priority: 0,
-    left: 0,
-};
 
 // Counts a further instance in the demands of those that it goes before, and answers its own among them.
 fn weigh<P: Policy>(

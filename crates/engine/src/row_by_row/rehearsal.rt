@@ -8,15 +8,13 @@ ghost use Rattle.engine.specs.Rehearsal.{stretch, rounds, verdict, rehearsed};
 ghost use Rattle.engine.specs.declared.verdict.Verdict.TheVariants.{Settled, Late};
 ghost use Rattle.engine.specs.declared.verdict.Verdict.{Verdict as Decided};
 
+use crate::rehearsal::MOST_ROUNDS;
 use crate::round::{has_settled, lead_in, round_of, waiting};
 use crate::row::Row;
 use crate::row_by_row::cycle::run_cycle;
 use crate::verdict::Verdict;
 use bus::rows::ROWS;
 use orders::policy::Policy;
-
-// A table that has not settled after so many rounds is not waited for any longer.
-const MOST_ROUNDS: u32 = 4;
 
 // Runs so many cycles, the first of which has the number `coming`; a late row ends them.
 fn run_stretch<P: Policy>(

@@ -1,7 +1,7 @@
 -- The schedule along a line. Assumes nothing.
 use Rattle.std.proofs.Common.{◌≡◌, ℕ, zero, suc, ◌+◌, ◌*◌, ◌%◌, ◌^◌, ◌<◌, ◌≤◌, Bool, true, false, cond, ◌&&◌, ◌||◌, eqb, List, [], ◌∷◌, length, get_or, take, set, Some, None, Option, sym, refl, ap, ◌∙◌, subst, inl, inr, ⊎_elim, arith, below_more}
 use lib.Bits.{bit_or}
-use Rattle.std.specs.List.{ContainsAt as Has, AllByRecursion as All}
+use Rattle.std.specs.List.{ContainsAt as Has, AllByRecursion}
 use Rattle.std.proofs.lemmas.Nat.{one_shl}
 use Rattle.std.proofs.ByRecursion.{All-get_or, All-append, all_shuffled, has_shuffled}
 use Rattle.std.proofs.lemmas.List.{get_or-set_same, get_or-set_other, get_or_default}
@@ -75,15 +75,15 @@ module _ (line : List Instance) (window k word : ℕ) (old new : List ℕ) (so_f
 abbrev Own : Slots → Instance → Type 0
 Own t y = waiter y.row (t y.row) ≡ y ∷ []
 
-own_waiter : (t : Slots) (n : ℕ) (o : Option Row) → t n ≡ o → All (Own t) (waiter n o)
+own_waiter : (t : Slots) (n : ℕ) (o : Option Row) → t n ≡ o → AllByRecursion (Own t) (waiter n o)
 own_waiter t n None e = tt
 own_waiter t n (Some row) e = go (waits row) refl
   where
-    go : (b : Bool) → waits row ≡ b → All (Own t) (cond b (instance_of n row ∷ []) [])
+    go : (b : Bool) → waits row ≡ b → AllByRecursion (Own t) (cond b (instance_of n row ∷ []) [])
     go true is = (ap (waiter n) e ∙ ap (λ b. cond b (instance_of n row ∷ []) []) is, tt)
     go false is = tt
 
-own_waiters : (t : Slots) (n : ℕ) → All (Own t) (waiters n t)
+own_waiters : (t : Slots) (n : ℕ) → AllByRecursion (Own t) (waiters n t)
 unfolding waiters
 own_waiters t zero = tt
 own_waiters t (suc n) = All-append (Own t) (waiters n t) (waiter n (t n)) (own_waiters t n) (own_waiter t n (t n) refl)

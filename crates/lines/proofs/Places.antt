@@ -1,6 +1,6 @@
 -- Where items stop to fit, and numbers to be sound. Assumes nothing.
 use Rattle.std.proofs.Common.{◌≡◌, ℕ, ◌+◌, ◌-◌, ◌<◌, false, ◌⊎◌, List, [], ◌∷◌, ◌++◌, length, Some, None, Ok, Err, Option, sym, refl, ap, ◌∙◌, subst, inl, inr, append_assoc, arith}
-use Rattle.std.specs.List.{AllByRecursion as All}
+use Rattle.std.specs.List.{AllByRecursion}
 use Rattle.std.proofs.lemmas.List.{length-append}
 use Rattle.std.proofs.lemmas.Bool.{cases_Bool, cond-true, cond-false, both_ways}
 use Rattle.lines.specs.declared.form.Form.{Form}
@@ -42,7 +42,7 @@ record Few (last : ℕ) (ks : List Kind) (ts : List (List ℕ)) (place : ℕ) : 
   of_kinds : OfKinds met ts
   at : place ≡ last
 
-stops : (last : ℕ) (ks : List Kind) (ts : List (List ℕ)) (q place : ℕ) → All IsItem ts → misfit last ks (spread q ts) ≡ Some place → Wrong ks ts q place ⊎ Few last ks ts place
+stops : (last : ℕ) (ks : List Kind) (ts : List (List ℕ)) (q place : ℕ) → AllByRecursion IsItem ts → misfit last ks (spread q ts) ≡ Some place → Wrong ks ts q place ⊎ Few last ks ts place
 stops last [] [] q place all e = absurd (none≢some place e)
 stops last [] (t ∷ ts) q place all e =
     inl (record {
@@ -177,7 +177,7 @@ number_found None f place e = absurd (let n = ap number_of e in omega arith)
 number_found (Some q) f place e = ap (λ r. Some (place_of r)) e
 
 -- a line with a known word
-module _ (line : List ℕ) (word : Word) (ts : List (List ℕ)) (all : All IsItem ts) (whole : line ≡ line_of (word_text word) ts) where
+module _ (line : List ℕ) (word : Word) (ts : List (List ℕ)) (all : AllByRecursion IsItem ts) (whole : line ≡ line_of (word_text word) ts) where
   abbrev q : ℕ
   q = 1 + length (word_text word) + 1
 

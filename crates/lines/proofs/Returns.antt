@@ -1,6 +1,6 @@
 -- The laws of reading. Assumes nothing.
 use Rattle.std.proofs.Common.{◌≡◌, ℕ, ◌+◌, ◌-◌, ◌<◌, true, List, [], ◌∷◌, length, get_or, drop, is_some, Some, None, Ok, Err, decimal, Option, Result, unwrap_or, sym, refl, ap, ◌∙◌, subst, inl, inr, arith}
-use Rattle.std.specs.List.{AllByRecursion as All}
+use Rattle.std.specs.List.{AllByRecursion}
 use Rattle.std.proofs.lemmas.Fmt.{digits_value-decimal}
 use Rattle.std.proofs.lemmas.Bool.{cond-true, both_ways}
 use Rattle.bus.specs.declared.refusal.Refusal.{Refusal}
@@ -67,7 +67,7 @@ shown_back Name t is fits ok =
     ] refl fits
 
 -- items that fit are written as what they say
-items_back : (end : ℕ) (ks : List Kind) (ts : List (List ℕ)) (q : ℕ) → All IsItem ts → misfit end ks (spread q ts) ≡ None → unsound ks (spread q ts) ≡ None → shown_all ks (spread q ts) ≡ ts
+items_back : (end : ℕ) (ks : List Kind) (ts : List (List ℕ)) (q : ℕ) → AllByRecursion IsItem ts → misfit end ks (spread q ts) ≡ None → unsound ks (spread q ts) ≡ None → shown_all ks (spread q ts) ≡ ts
 items_back end [] [] q all fit ok = refl
 items_back end [] (t ∷ ts) q all fit ok = absurd (none≢some _ (sym fit))
 items_back end (k ∷ ks) [] q all fit ok = absurd (none≢some _ (sym fit))
@@ -99,7 +99,7 @@ said_items Add ps = refl
 said_items Alter ps = refl
 
 -- a well-shaped line with a known word
-module _ (w : List ℕ) (ts : List (List ℕ)) (is : IsWord w) (all : All IsItem ts) where
+module _ (w : List ℕ) (ts : List (List ℕ)) (is : IsWord w) (all : AllByRecursion IsItem ts) where
   abbrev items : List Placed
   items = spread (1 + length w + 1) ts
 
@@ -148,7 +148,7 @@ Fitting [] (t ∷ ts) = ⊥
 Fitting (k ∷ ks) [] = ⊥
 Fitting (k ∷ ks) (t ∷ ts) = (IsItem t × (takes k t ≡ true) × (sound k t ≡ true)) × Fitting ks ts
 
-fitting_items : (ks : List Kind) (ts : List (List ℕ)) → Fitting ks ts → All IsItem ts
+fitting_items : (ks : List Kind) (ts : List (List ℕ)) → Fitting ks ts → AllByRecursion IsItem ts
 fitting_items [] [] h = tt
 fitting_items [] (t ∷ ts) h = absurd h
 fitting_items (k ∷ ks) [] h = absurd h
@@ -341,7 +341,7 @@ takes_of_kind Name t is fits =
       | Some p ↦ λ e some. (p, named_text policy_text t policies p e)
     ] refl fits
 
-pub of_kinds_fit : (last : ℕ) (ks : List Kind) (ts : List (List ℕ)) (q : ℕ) → OfKinds ks ts → All IsItem ts × (misfit last ks (spread q ts) ≡ None)
+pub of_kinds_fit : (last : ℕ) (ks : List Kind) (ts : List (List ℕ)) (q : ℕ) → OfKinds ks ts → AllByRecursion IsItem ts × (misfit last ks (spread q ts) ≡ None)
 of_kinds_fit last [] [] q h = (tt, refl)
 of_kinds_fit last [] (t ∷ ts) q h = absurd h
 of_kinds_fit last (k ∷ ks) [] q h = absurd h
@@ -350,7 +350,7 @@ of_kinds_fit last (k ∷ ks) (t ∷ ts) q h =
     let rest = of_kinds_fit last ks ts (q + length t + 1) h.1 in
     ((here.0, rest.0), cond-true (takes k t) _ _ here.1 ∙ rest.1)
 
-pub fit_of_kinds : (last : ℕ) (ks : List Kind) (ts : List (List ℕ)) (q : ℕ) → All IsItem ts → misfit last ks (spread q ts) ≡ None → OfKinds ks ts
+pub fit_of_kinds : (last : ℕ) (ks : List Kind) (ts : List (List ℕ)) (q : ℕ) → AllByRecursion IsItem ts → misfit last ks (spread q ts) ≡ None → OfKinds ks ts
 fit_of_kinds last [] [] q all fit = tt
 fit_of_kinds last [] (t ∷ ts) q all fit = absurd (none≢some _ (sym fit))
 fit_of_kinds last (k ∷ ks) [] q all fit = absurd (none≢some _ (sym fit))

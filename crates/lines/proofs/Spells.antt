@@ -1,7 +1,7 @@
 -- A line that is read is the spelling of what it says. Assumes nothing.
 use Rattle.std.proofs.Common.{◌≡◌, ℕ, suc, ◌+◌, ◌-◌, ◌^◌, ◌<◌, ◌≤◌, Bool, true, false, cond, not, leb, List, [], ◌∷◌, ◌++◌, length, get_or, Some, None, decimal, Option, sym, refl, ap, ◌∙◌, inl, inr, arith}
 use Rattle.std.specs.Int.{IsInRange}
-use Rattle.std.specs.List.{AllByRecursion as All}
+use Rattle.std.specs.List.{AllByRecursion}
 use Rattle.std.specs.Str.{bytes_eq}
 use Rattle.std.proofs.lemmas.Fmt.{decimal-digits_value, digits_value-decimal, digits_decimal, first_decimal, decimal_nonempty, decimal_digit}
 use Rattle.std.proofs.lemmas.Slice.Eq.{bytes_eq-Decides}
@@ -54,7 +54,7 @@ part_item w p b rest (inl is) over = one_part Letter refl w p b rest is.1 over
 part_item w p b rest (inr is) over = one_part Digit refl w p b rest is.1 over
 
 -- the parts of a well-shaped line
-pub parts_of : (w : List ℕ) (ts : List (List ℕ)) (p : ℕ) → IsItem w → All IsItem ts → parts p (w ++ closing ts) ≡ spread p (w ∷ ts)
+pub parts_of : (w : List ℕ) (ts : List (List ℕ)) (p : ℕ) → IsItem w → AllByRecursion IsItem ts → parts p (w ++ closing ts) ≡ spread p (w ∷ ts)
 parts_of w [] p is all = part_item w p 41 [] is refl
 parts_of w (t ∷ ts) p is all =
     part_item w p 32 (t ++ closing ts) is refl ∙ ap (λ l. placed p w ∷ l) (parts_of t ts (p + length w + 1) all.0 all.1)

@@ -1,6 +1,6 @@
 -- A line is well shaped just where no sign is misplaced. Assumes nothing.
 use Rattle.std.proofs.Common.{◌≡◌, ℕ, suc, ◌+◌, ◌<◌, ◌≤◌, true, false, cond, List, [], ◌∷◌, ◌++◌, length, get_or, take, Some, None, sym, refl, ap, ◌∙◌, subst, inl, inr, append_assoc, arith}
-use Rattle.std.specs.List.{AllByRecursion as All}
+use Rattle.std.specs.List.{AllByRecursion}
 use Rattle.std.proofs.lemmas.List.{take_more}
 use Rattle.std.proofs.lemmas.Bool.Decides.{nat_tests}
 use Rattle.lines.specs.declared.sign.Sign.{Sign}
@@ -37,7 +37,7 @@ item_good [] rest (inr n) h k = absurd (omega (arith, n.0))
 item_good (b ∷ t) rest (inl w) h k = by_sign ItemDue InWord Letter b (t ++ rest) w.1.0 refl (letters_good t rest w.1.1 h)
 item_good (b ∷ t) rest (inr n) h k = by_sign ItemDue InNumber Digit b (t ++ rest) n.1.0 refl (digits_good t rest n.1.1 k)
 
-closing_good : (ts : List (List ℕ)) → All IsItem ts → Good InWord (closing ts) × Good InNumber (closing ts)
+closing_good : (ts : List (List ℕ)) → AllByRecursion IsItem ts → Good InWord (closing ts) × Good InNumber (closing ts)
 closing_good [] all = (λ p. refl, λ p. refl)
 closing_good (t ∷ ts) all =
     let h = closing_good ts all.1 in
@@ -74,7 +74,7 @@ pub record Then (P : List ℕ → Type 0) (bs : List ℕ) : Type 0 where
   pub front : List ℕ
   pub items : List (List ℕ)
   pub passes : P front
-  pub are_items : All IsItem items
+  pub are_items : AllByRecursion IsItem items
   pub whole : bs ≡ front ++ closing items
 
 -- what is still to come at each stage

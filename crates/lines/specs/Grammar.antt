@@ -1,6 +1,6 @@
 -- Lines in their own words: which are well shaped, and which sign is the first that cannot follow. Assumes nothing.
 use Rattle.std.specs.Prelude.{◌≡◌, ℕ, ◌+◌, ◌<◌, ◌≤◌, ◌⊎◌, List, [], ◌∷◌, ◌++◌, length, take}
-use Rattle.std.specs.List.{AllByRecursion as All}
+use Rattle.std.specs.List.{AllByRecursion}
 use Rattle.lines.specs.declared.sign.Sign.{Sign}
 use Rattle.lines.specs.declared.sign.Sign.TheVariants.{Letter, Digit}
 use Rattle.lines.specs.Signs.{sign_of}
@@ -33,7 +33,7 @@ pub record WellShaped (line : List ℕ) : Type 0 where
   pub word : List ℕ
   pub items : List (List ℕ)
   pub is_word : IsWord word
-  pub are_items : All IsItem items
+  pub are_items : AllByRecursion IsItem items
   pub whole : line ≡ line_of word items
 
 -- what stands before the place can be continued to a well-shaped line; one sign more, or the line itself, cannot

@@ -1,6 +1,6 @@
 -- The account of one message, and what one cycle does to it. Assumes nothing.
 use Rattle.std.proofs.Common.{◌≡◌, ℕ, suc, ◌+◌, ◌-◌, ◌*◌, ◌<◌, ◌≤◌, Bool, true, false, cond, ◌&&◌, eqb, leb, ◌⊎◌, List, [], ◌∷◌, count_by, sym, refl, ap, ◌∙◌, subst, subst₂, inl, inr, ⊎_elim, suc-mul, zero-add, zero-mul, arith}
-use Rattle.std.specs.List.{AllByRecursion as All}
+use Rattle.std.specs.List.{AllByRecursion}
 use Rattle.std.proofs.ByRecursion.{All-weaker}
 use Rattle.std.proofs.lemmas.List.Sums.{sum_by-cons}
 use Rattle.std.proofs.lemmas.Bool.{cases_eq, cases_lt, eq-eqb, ne_eqb, le-leb, and_from, and_left}
@@ -51,7 +51,7 @@ module _ (f : Figures) (start : ℕ) where
     pub before : (j : ℕ) → 1 ≤ j → j < k → Done noted j
     pub last : Open noted now left k ⊎ Closed noted left k
     pub later : (j : ℕ) → k < j → how_often noted j ≡ 0
-    pub in_life : All (λ c. (start < c) × (c ≤ now) × (1 ≤ number_in c)) noted
+    pub in_life : AllByRecursion (λ c. (start < c) × (c ≤ now) × (1 ≤ number_in c)) noted
 
   -- a message that was just added
   pub account_new : Account [] start f.phase 0 0
@@ -117,7 +117,7 @@ module _ (f : Figures) (start : ℕ) where
         in_time = omega (arith, in_time_same noted c i is h, in_time_le noted i);
       }
 
-  longer : (noted : List ℕ) (now : ℕ) → All (λ c. (start < c) × (c ≤ now) × (1 ≤ number_in c)) noted → All (λ c. (start < c) × (c ≤ now + 1) × (1 ≤ number_in c)) noted
+  longer : (noted : List ℕ) (now : ℕ) → AllByRecursion (λ c. (start < c) × (c ≤ now) × (1 ≤ number_in c)) noted → AllByRecursion (λ c. (start < c) × (c ≤ now + 1) × (1 ≤ number_in c)) noted
   longer noted now = All-weaker _ _ (λ c h. (h.0, omega (arith, h.1), h.2)) noted
 
   -- ONE CYCLE: an instance is released or not, and the message is scheduled or not

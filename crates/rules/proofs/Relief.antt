@@ -1,7 +1,7 @@
 -- After a drop or a wider window no message is scheduled later. Assumes nothing.
 use Rattle.std.proofs.Common.{◌≡◌, ℕ, zero, suc, ◌+◌, ◌-◌, ◌<◌, ◌≤◌, Bool, true, false, cond, not, ◌&&◌, eqb, ltb, leb, ◌⊎◌, List, [], ◌∷◌, ◌++◌, map, length, is_some, Some, None, Ok, Err, count_by, Option, sym, refl, ap, ◌∙◌, subst, subst₂, inl, inr, ⊎_elim, le_refl, arith}
 use Rattle.std.specs.Option.{option_map}
-use Rattle.std.specs.List.{AllByRecursion as All, AllZip}
+use Rattle.std.specs.List.{AllByRecursion, AllZip}
 use Rattle.std.proofs.ByRecursion.{All-weaker, All-map}
 use Rattle.std.proofs.lemmas.List.Sums.{sum_by-cons}
 use Rattle.std.proofs.lemmas.Bool.{cases_Bool, cases_eq, false≢true, both_ways, eq-eqb, ne_eqb, eqb-true, ltb-true, lt-ltb, leb-true, and_parts}
@@ -51,7 +51,7 @@ has_cases true i c cs h =
     (cases_eq i c)
 
 -- some cycle of a list passes a test that is passed at all
-found : (test : ℕ → Bool) (P : ℕ → Type 0) (cs : List ℕ) → All P cs → 0 < count_by test cs → (c : ℕ) × (has c cs ≡ true) × (test c ≡ true) × P c
+found : (test : ℕ → Bool) (P : ℕ → Type 0) (cs : List ℕ) → AllByRecursion P cs → 0 < count_by test cs → (c : ℕ) × (has c cs ≡ true) × (test c ≡ true) × P c
 found test P [] all h = absurd (omega arith)
 found test P (c ∷ cs) all h = go (test c) refl (found test P cs all.1)
   where
@@ -178,7 +178,7 @@ module _ (goes : Order) (n wide narrow : ℕ) (wider : narrow ≤ wide) where
                 (x.0, has_more noted_a x.0 c a.noted x.1, x.2, x.3)
             go (inr now_noted) = new now_noted.1 (scheduled_by a b held_a held_b p.row p.figures p.start (sym is_b ∙ now_noted.0))
 
-    pairs_on : (xs ys : List Message) → All (Tied t now) xs → All (Tied s now) ys → AllZip NoLater xs ys → AllZip NoLater (map (note (word one t) c) xs) (map (note (word other s) c) ys)
+    pairs_on : (xs ys : List Message) → AllByRecursion (Tied t now) xs → AllByRecursion (Tied s now) ys → AllZip NoLater xs ys → AllZip NoLater (map (note (word one t) c) xs) (map (note (word other s) c) ys)
     pairs_on [] [] tx ty p = tt
     pairs_on [] (y ∷ ys) tx ty p = absurd p
     pairs_on (x ∷ xs) [] tx ty p = absurd p
@@ -189,13 +189,13 @@ unfoldable turns : Rules → ℕ → Slots → Ledger → Ledger
 turns rules zero t l = l
 turns rules (suc k) t l = turns rules k (cycle rules t) (turn rules.rows (word rules t) l)
 
-turn_all_tied : (rules : Rules) (t : Slots) → Safe rules t → (now : ℕ) (ms : List Message) → All (Tied t now) ms → All (Tied (cycle rules t) (now + 1)) (map (note (word rules t) (now + 1)) ms)
+turn_all_tied : (rules : Rules) (t : Slots) → Safe rules t → (now : ℕ) (ms : List Message) → AllByRecursion (Tied t now) ms → AllByRecursion (Tied (cycle rules t) (now + 1)) (map (note (word rules t) (now + 1)) ms)
 turn_all_tied rules t safe now ms all =
     All-map (Tied (cycle rules t) (now + 1)) (note (word rules t) (now + 1)) ms (All-weaker _ _ (turn_tied rules t safe.within safe.sound safe.calm now) ms all)
 
 module _ (goes : Order) (n wide narrow : ℕ) (wider : narrow ≤ wide) where
   turns_no_later : (k : ℕ) (t s : Slots) (l m : Ledger) → Safe (one goes n wide narrow wider) t → Safe (other goes n wide narrow wider) s → Lighter t s → l.count ≡ m.count
-      → All (Tied t l.count) l.messages → All (Tied s m.count) m.messages → AllZip NoLater l.messages m.messages
+      → AllByRecursion (Tied t l.count) l.messages → AllByRecursion (Tied s m.count) m.messages → AllZip NoLater l.messages m.messages
       → AllZip NoLater (turns (one goes n wide narrow wider) k t l).messages (turns (other goes n wide narrow wider) k s m).messages
   unfolding turns
   turns_no_later zero t s l m safe_t safe_s lighter same tied_l tied_m each = each
@@ -208,7 +208,7 @@ module _ (goes : Order) (n wide narrow : ℕ) (wider : narrow ≤ wide) where
       (turn_all_tied first t safe_t l.count l.messages tied_l)
       (turn_all_tied second s safe_s m.count m.messages tied_m)
       (subst (λ i. AllZip NoLater (map (note (word first t) (l.count + 1)) l.messages) (map (note (word second s) (i + 1)) m.messages)) same
-      (pairs_on goes n wide narrow wider t s safe_t safe_s lighter l.count l.messages m.messages tied_l (subst (λ i. All (Tied s i) m.messages) (sym same) tied_m) each))
+      (pairs_on goes n wide narrow wider t s safe_t safe_s lighter l.count l.messages m.messages tied_l (subst (λ i. AllByRecursion (Tied s i) m.messages) (sym same) tied_m) each))
 
 -- THE TWO RUNS
 

@@ -1,12 +1,12 @@
 -- Sums over lists that are changed element by element. Assumes nothing.
 use Rattle.std.proofs.Common.{◌≡◌, ℕ, zero, suc, ◌+◌, ◌*◌, ◌<◌, Bool, true, false, cond, List, [], ◌∷◌, map, sum_by, count_by, sym, refl, ap, ◌∙◌, ap₂, suc-mul, zero-mul, arith}
-use Rattle.std.specs.List.{AllByRecursion as All}
+use Rattle.std.specs.List.{AllByRecursion}
 use Rattle.std.proofs.lemmas.List.Sums.{sum_by-cons}
 use Rattle.engine.specs.Rehearsal.{every}
 use Rattle.std.proofs.lemmas.Bool.{and_from}
 
 module _ {X : Type 0} where
-  pub sum_like : (f g : X → ℕ) (xs : List X) → All (λ x. f x ≡ g x) xs → sum_by f xs ≡ sum_by g xs
+  pub sum_like : (f g : X → ℕ) (xs : List X) → AllByRecursion (λ x. f x ≡ g x) xs → sum_by f xs ≡ sum_by g xs
   sum_like f g [] h = refl
   sum_like f g (x ∷ xs) h = sum_by-cons f x xs ∙ ap₂ ◌+◌ h.0 (sum_like f g xs h.1) ∙ sym (sum_by-cons g x xs)
 
@@ -22,12 +22,12 @@ module _ {X : Type 0} where
   sum_plus f g [] = refl
   sum_plus f g (x ∷ xs) = omega (arith, sum_by-cons (λ y. f y + g y) x xs, sum_by-cons f x xs, sum_by-cons g x xs, sum_plus f g xs)
 
-  pub all_each : (P : X → Type 0) → ((x : X) → P x) → (xs : List X) → All P xs
+  pub all_each : (P : X → Type 0) → ((x : X) → P x) → (xs : List X) → AllByRecursion P xs
   all_each P h [] = tt
   all_each P h (x ∷ xs) = (h x, all_each P h xs)
 
   -- each that passes adds the same
-  pub sum_same : (p : X → Bool) (f : X → ℕ) (u : ℕ) (xs : List X) → All (λ x. p x ≡ true → f x ≡ u) xs → sum_by (λ x. cond (p x) (f x) 0) xs ≡ count_by p xs * u
+  pub sum_same : (p : X → Bool) (f : X → ℕ) (u : ℕ) (xs : List X) → AllByRecursion (λ x. p x ≡ true → f x ≡ u) xs → sum_by (λ x. cond (p x) (f x) 0) xs ≡ count_by p xs * u
   sum_same p f u [] h = sym (zero-mul u)
   sum_same p f u (x ∷ xs) h = go (p x) refl h.0 (sum_same p f u xs h.1)
     where

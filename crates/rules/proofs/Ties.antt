@@ -1,6 +1,6 @@
 -- The tie between a table and a ledger, and how a started and an ended message keep it. Assumes nothing.
 use Rattle.std.proofs.Common.{◌≡◌, ℕ, ◌-◌, ◌≤◌, Bool, true, false, cond, not, ◌&&◌, eqb, ltb, ◌⊎◌, [], ◌∷◌, map, length, get_or, is_some, Some, None, count_by, Option, sym, refl, ap, ◌∙◌, subst, inl, inr, ⊎_elim, arith}
-use Rattle.std.specs.List.{AllByRecursion as All}
+use Rattle.std.specs.List.{AllByRecursion}
 use Rattle.std.proofs.ByRecursion.{All-weaker, All-map}
 use Rattle.std.proofs.lemmas.List.Sums.{sum_by-cons}
 use Rattle.std.proofs.lemmas.Bool.{cases_Bool, cases_eq, cond-true, cond-false, eq-eqb, ne_eqb, or_from}
@@ -31,7 +31,7 @@ pub record Tie (t : Slots) (l : Ledger) : Type 0 where
   pub unbroken : l.broken ≡ false
   -- a row is in use exactly where one live message has it
   pub counts : (r : ℕ) → count_by (live_on r) l.messages ≡ one_if (is_used (t r))
-  pub tied : All (Tied t l.count) l.messages
+  pub tied : AllByRecursion (Tied t l.count) l.messages
   pub long : length l.windows ≡ l.count
   pub in_window : (c : ℕ) → 1 ≤ c → c ≤ l.count → units_in c l.messages ≤ get_or l.windows (c - 1) 0
 

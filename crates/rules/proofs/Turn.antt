@@ -1,6 +1,6 @@
 -- One cycle of a calm table keeps the tie with the ledger. Assumes nothing.
 use Rattle.std.proofs.Common.{◌≡◌, ℕ, zero, suc, ◌+◌, ◌-◌, ◌*◌, ◌^◌, ◌<◌, ◌≤◌, Bool, true, false, cond, not, ◌&&◌, eqb, ltb, leb, ◌⊎◌, List, [], ◌∷◌, ◌++◌, map, length, get_or, is_some, Some, None, sum_by, count_by, Option, sym, refl, ap, ◌∙◌, subst, ap₂, inl, inr, ⊎_elim, one-mul, zero-add, zero-mul, arith}
-use Rattle.std.specs.List.{range_with_len, AllByRecursion as All}
+use Rattle.std.specs.List.{range_with_len, AllByRecursion}
 use Rattle.std.specs.Option.{option_map}
 use Rattle.std.proofs.lemmas.List.FromFn.{length-map-range_with_len, get_or-map-range_with_len}
 use Rattle.std.proofs.ByRecursion.{All-weaker, All-map}
@@ -139,14 +139,14 @@ module _ (rules : Rules) (t : Slots) (within : Within rules.rows t) (fine : Soun
         let l = live_turn h in
         let c : ℕ = now + 1 in
         let InLife : ℕ → Type 0 = λ i. (m.start < i) × (i ≤ c) × (1 ≤ releases l.x.figures (i - m.start)) in
-        let life : All InLife (c ∷ m.noted) = subst (λ b. All InLife (cond b (c ∷ m.noted) m.noted)) is l.turned.1.in_life in
+        let life : AllByRecursion InLife (c ∷ m.noted) = subst (λ b. AllByRecursion InLife (cond b (c ∷ m.noted) m.noted)) is l.turned.1.in_life in
         subst (λ f. 1 ≤ releases f (c - m.start)) (sym l.same) life.0.2
 
     -- what it was scheduled in so far
-    pub noted_by : Tied t now m → All (λ c. c ≤ now) m.noted
+    pub noted_by : Tied t now m → AllByRecursion (λ c. c ≤ now) m.noted
     noted_by h = go m.ended h
       where
-        go : (e : Option ℕ) → TiedBy e t now m → All (λ c. c ≤ now) m.noted
+        go : (e : Option ℕ) → TiedBy e t now m → AllByRecursion (λ c. c ≤ now) m.noted
         go (Some e) h = All-weaker _ _ (λ c k. omega (arith, k.1, h.3)) m.noted h.4.in_life
         go None h = All-weaker _ _ (λ c k. k.1) m.noted (live_turn h).was.in_life
 
@@ -183,7 +183,7 @@ module _ (rules : Rules) (t : Slots) (within : Within rules.rows t) (fine : Soun
     noted_now : Tied t now m → noted_in (now + 1) m⁺ ≡ part rules.rows
     noted_now h = go m.ended h (noted_by h)
       where
-        none_yet : (cs : List ℕ) → All (λ c. c ≤ now) cs → count_by (eqb (now + 1)) cs ≡ 0
+        none_yet : (cs : List ℕ) → AllByRecursion (λ c. c ≤ now) cs → count_by (eqb (now + 1)) cs ≡ 0
         none_yet [] k = refl
         none_yet (c ∷ cs) k =
             let other : one_if (eqb (now + 1) c) ≡ 0 = ap one_if (ne_eqb (now + 1) c (λ e. omega (arith, k.0))) in
@@ -195,7 +195,7 @@ module _ (rules : Rules) (t : Slots) (within : Within rules.rows t) (fine : Soun
             let same : one_if (eqb (now + 1) (now + 1)) ≡ 1 = ap one_if (eq-eqb (now + 1) (now + 1) refl) in
             ap (ltb 0) (sum_by-cons (λ i. one_if (eqb (now + 1) i)) (now + 1) m.noted ∙ ap₂ ◌+◌ same none)
 
-        go : (e : Option ℕ) → TiedBy e t now m → All (λ c. c ≤ now) m.noted
+        go : (e : Option ℕ) → TiedBy e t now m → AllByRecursion (λ c. c ≤ now) m.noted
             → ltb 0 (count_by (eqb (now + 1)) (cond (not (is_some e) && member w m.row) ((now + 1) ∷ m.noted) m.noted)) ≡ (not (is_some e) && (chosen rules t m.row && ltb m.row rules.rows))
         go (Some e) h k = now_noted false (none_yet m.noted k)
         go None h k =

@@ -1,6 +1,6 @@
 -- The promise over every list of calls. Assumes nothing.
 use Rattle.std.specs.Prelude.{◌≡◌, ℕ, ◌+◌, ◌-◌, ◌<◌, ◌≤◌, Bool, true, false, cond, ◌&&◌, ◌≢◌, List, [], ◌∷◌, ◌++◌, map, length, None, sum_by, nat_le, slice_index}
-use Rattle.std.specs.List.{AllByRecursion as All, AllZip}
+use Rattle.std.specs.List.{AllByRecursion, AllZip}
 use Rattle.bus.specs.Refusals.{numbered}
 use Rattle.orders.specs.Laws.{Order}
 use Rattle.rules.specs.Calls.{Call, Answer, Report, State, fresh, answer, run, history}
@@ -27,7 +27,7 @@ pub record Accounted (l : Ledger) (m : Message) : Type 0 where
   -- every released instance has exactly one fate
   pub one_fate : (j : ℕ) → 1 ≤ j → j ≤ released l m → fates l m j ≡ 1
   -- every cycle in which it was scheduled lies in its life, and schedules an instance that was released by then
-  pub in_life : All (λ c. (m.start < c) × (c ≤ lived_to l m) × (1 ≤ instance_in m c)) m.noted
+  pub in_life : AllByRecursion (λ c. (m.start < c) × (c ≤ lived_to l m) × (1 ≤ instance_in m c)) m.noted
   -- the numbers add up
   pub adds_up : how_many (released l m) (is_scheduled m) + how_many (released l m) (is_waiting l m) + how_many (released l m) (is_withdrawn m) ≡ released l m
   -- and all but one at most are scheduled
@@ -40,7 +40,7 @@ units_in c ms = sum_by (λ m. cond (noted_in c m) m.figures.duration 0) ms
 -- what a ledger must show
 pub record Kept (l : Ledger) : Type 0 where
   pub unbroken : l.broken ≡ false
-  pub accounted : All (Accounted l) l.messages
+  pub accounted : AllByRecursion (Accounted l) l.messages
   -- no cycle schedules more than its window
   pub in_window : (c : ℕ) → 1 ≤ c → c ≤ l.count → units_in c l.messages ≤ slice_index l.windows (c - 1)
 

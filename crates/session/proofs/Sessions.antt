@@ -10,7 +10,7 @@ use Rattle.rules.specs.Calls.Report.{sent}
 use Rattle.lines.specs.declared.form.Form.{Form}
 use Rattle.lines.specs.declared.form.Form.TheVariants.{Window, Policy, Drop, Next, Which, Frame, Add, Alter}
 use Rattle.bus.specs.Frames.{frame_answer}
-use Rattle.session.specs.Replies.{Said, Standing, answers, leaves, by_answer, by_units, taken, form_said, form_after, read_said, read_after, line_said, line_after}
+use Rattle.session.specs.Replies.{Said, Standing, answers, leaves, by_answer, by_units, taken, form_said, form_after, read_said, read_after}
 use Rattle.session.specs.Sessions.{cycles_leave, cycles_print, reply_prints, reply_leaves, line_prints, line_leaves, lines_leave, form_calls, read_calls, line_calls, calls_of, answered_calls}
 
 abbrev after_all : Standing → List (Call Selector) → Standing

@@ -72,7 +72,7 @@ sent w = codes "(send " ++ (hex_bytes (trigger_bytes w) ++ codes ")")
 abbrev pub printed : Answer → List ℕ
 printed Made = codes "(ok)"
 printed (Label n) = codes "(label " ++ (decimal n ++ codes ")")
-printed (Send rows) = sent rows.word
+printed (Send rows) = codes "(send " ++ (hex_bytes (trigger_bytes rows.word) ++ codes ")")
 printed (Units n) = codes "(units " ++ (decimal n ++ codes ")")
 printed (Refused f) = refused f.line f.refusal
 

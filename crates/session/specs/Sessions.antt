@@ -4,7 +4,7 @@ use Rattle.bus.specs.Refusals.{Told}
 use Rattle.orders.specs.Coded.{order_of}
 use Rattle.orders.specs.declared.selector.Selector.{Selector}
 use Rattle.orders.specs.declared.selector.Selector.TheVariants.{RateMonotonic}
-use Rattle.rules.specs.Calls.{Call, Answer, fresh, run, history}
+use Rattle.rules.specs.Calls.{Call, Answer, run, history}
 use Rattle.rules.specs.Calls.Call.{add, alter, drop, set_window, set_policy, next}
 use Rattle.rules.specs.Calls.Report.{sent}
 use Rattle.rules.specs.Promise.{Kept, ledger_of}

@@ -1,13 +1,51 @@
 // An answer to a line, and the line that is printed for it.
-ghost use Rattle.std.specs.Prelude.{◌≡◌, ◌+◌, ◌/◌, ◌%◌, ◌<◌, ◌≤◌, ◌++◌, length, decimal};
+ghost use Rattle.std.specs.Prelude.{◌≡◌, ◌+◌, ◌/◌, ◌%◌, ◌<◌, ◌≤◌, ◌++◌, length, decimal, Some};
+ghost use Rattle.bus.specs.Refusals.{field_number};
 ghost use Rattle.bus.specs.Triggers.{trigger_bytes};
 ghost use Rattle.text.specs.Texts.{text_of};
-ghost use Rattle.session.specs.Printed.{hex_digit, hex_bytes, ended, printed, refused, sent};
+ghost use Rattle.session.specs.Printed.{hex_digit, hex_byte, hex_bytes, ended, printed, refused, sent};
 
-use bus::refusal::Refusal;
+use bus::refusal::{Field, Refusal};
 use bus::rows::RowSet;
 use lines::fault::Fault;
+use std::fmt;
 use text::text::Text;
+
+fn field_number(field: Field) -> u8
+    ensures { result ≡ field_number field }
+{
+    match field {
+        Field::Duration => 1,
+        Field::Period => 2,
+        Field::Deadline => 3,
+        Field::Window => 4,
+    }
+}
+
+// A byte as two hexadecimal digits.
+#[derive(Clone, Copy)]
+struct Hex(u8);
+
+fn hex_digit(value: u8) -> char
+    requires { value < 16 }
+    ensures { result ≡ hex_digit value }
+{
+    if value < 10 {
+        (b'0' + value) as char
+    } else {
+        (b'a' + (value - 10)) as char
+    }
+}
+
+impl fmt::Display for Hex {
+    ghost output = { λ h. Some (hex_byte h.0) };
+
+    fn fmt<W: fmt::Write>(&self, f: &mut fmt::Formatter<W>) -> fmt::Result {
+        let high = hex_digit(self.0 / 16);
+        let low = hex_digit(self.0 % 16);
+        write!(f, "{high}{low}")
+    }
+}
 
 #[derive(Clone, Copy)]
 pub enum Answer {
@@ -21,6 +59,53 @@ pub enum Answer {
     Send(RowSet),
     // the line is at fault, or what it asks for is declined
     Refused(Fault),
+}
+
+impl fmt::Display for Answer {
+    ghost output = { λ a. Some (printed a) };
+
+    fn fmt<W: fmt::Write>(&self, f: &mut fmt::Formatter<W>) -> fmt::Result {
+        match *self {
+            Answer::Made => write!(f, "(ok)"),
+            Answer::Units(units) => write!(f, "(units {units})"),
+            Answer::Label(label) => write!(f, "(label {label})"),
+            Answer::Send(rows) => {
+                let [a, b, c, d] = rows.word.to_le_bytes();
+                let (a, b, c, d) = (Hex(a), Hex(b), Hex(c), Hex(d));
+                write!(f, "(send {a} {b} {c} {d})")
+            }
+            Answer::Refused(fault) => {
+                let line = fault.line;
+                match fault.refusal {
+                    Refusal::BadSign { place } => write!(
+                        f,
+                        "(fault 13 (line {line}) (place {place}))"
+                    ),
+                    Refusal::BadItem { place } => write!(
+                        f,
+                        "(fault 14 (line {line}) (place {place}))"
+                    ),
+                    Refusal::BadNumber { place } => write!(
+                        f,
+                        "(fault 15 (line {line}) (place {place}))"
+                    ),
+                    Refusal::OutOfRange { field } => {
+                        let field = field_number(field);
+                        write!(f, "(declined 4 (field {field}))")
+                    }
+                    Refusal::AboveWindow { row } => write!(f, "(declined 5 (row {row}))"),
+                    Refusal::Late { row, cycle } => write!(
+                        f,
+                        "(declined 7 (row {row}) (cycle {cycle}))"
+                    ),
+                    other => {
+                        let number = other.number();
+                        write!(f, "(declined {number})")
+                    }
+                }
+            }
+        }
+    }
 }
 
 impl Answer {
@@ -76,7 +161,8 @@ fn with_numbers(before: &[u8], first: u64, between: &[u8], second: u64, after: &
     text
 }
 
-fn hex_digit(value: u8) -> u8
+// The same digit as a byte.
+fn hex_digit_byte(value: u8) -> u8
     requires { value < 16 }
     ensures { result ≡ hex_digit value }
 {
@@ -90,13 +176,13 @@ fn hex_digit(value: u8) -> u8
 fn high_digit(byte: u8) -> u8
     ensures { result ≡ hex_digit (byte / 16) }
 {
-    hex_digit(byte / 16)
+    hex_digit_byte(byte / 16)
 }
 
 fn low_digit(byte: u8) -> u8
     ensures { result ≡ hex_digit (byte % 16) }
 {
-    hex_digit(byte % 16)
+    hex_digit_byte(byte % 16)
 }
 
 // A trigger's four bytes, two hexadecimal digits each.

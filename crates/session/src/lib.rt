@@ -2,5 +2,6 @@
 #![tactic(auto)]
 
 pub mod answer;
+pub mod input;
 pub mod reply;
 pub mod session;

@@ -1,4 +1,4 @@
-use Rattle.std.proofs.Common.{ℕ, sym, ap, ◌∙◌}
+use Rattle.std.proofs.Common.{sym, ap, ◌∙◌}
 use Rattle.bus.specs.declared.refusal.Refusal.TheVariants.{AboveWindow, Late}
 use Rattle.session.specs.Printed.{ended, refused, with_field}
 use Rattle.session.proofs.answer.refuse.Goals as goal

@@ -10,12 +10,11 @@ use Rattle.engine.specs.declared.row.Figures.{Figures}
 use Rattle.engine.specs.declared.row.Row.{Row}
 use Rattle.engine.specs.Rows.{sound}
 use Rattle.engine.specs.Comparison.{Sound, SoundSlot}
-use Rattle.engine.specs.Cycle.{Slots, first_of}
+use Rattle.engine.specs.Cycle.{Slots}
 use Rattle.engine.proofs.Tests.{first_none, some_is_none}
 use Rattle.engine.proofs.Rehearsed.{Within}
 use Rattle.rules.specs.Calls.{Call, State, Outcome, fresh, is_used, new_row, put, refused_if, in_range, settle, rules_of, rehearsed, with_slots, with_window, with_policy, checks, outcome, step, answer, after, run, history}
 use Rattle.rules.specs.Calls.Call.{add, alter, drop, set_window, set_policy, next}
-use Rattle.rules.specs.Calls.Answer.{made, declined}
 use Rattle.rules.specs.Ledger.{Ledger, blank, begin, end, resized, by_answer, enter, entered}
 use Rattle.rules.specs.Promise.{Kept, ledger_of}
 use Rattle.rules.proofs.Safe.{Safe, safe_empty, safe_next, safe_without, safe_wider, put_slots, put_within, rehearsed_safe, err_is_ok, same_ok}

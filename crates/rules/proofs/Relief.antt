@@ -17,7 +17,6 @@ use Rattle.engine.specs.Cycle.{Slots, Rules, used_and, release, cycle, word}
 use Rattle.engine.proofs.Lighter.{release_sound, release_lighter, scheduled_lighter, cycle_lighter}
 use Rattle.rules.specs.Calls.{Call, Report, State, Outcome, Step, fresh, put, settle, rules_of, rehearsed, with_slots, with_window, checks, outcome, step, answer, after, run, history}
 use Rattle.rules.specs.Calls.Call.{add, alter, drop, set_window, set_policy, next}
-use Rattle.rules.specs.Calls.Answer.{made}
 use Rattle.rules.specs.Ledger.{Message, Ledger, blank, releases, instance_in, is_live, note, turn, end, end_on, resized, by_answer, enter, entered, one_if}
 use Rattle.rules.specs.Promise.{NoLater, is_made, relieves, ledger_of, Promise}
 use Rattle.rules.proofs.Accounts.{Account, Done, Open, Closed, number_in, account_number}

@@ -1,4 +1,4 @@
-use Rattle.std.proofs.Common.{◌≡◌, ◌+◌, ◌*◌, ◌≤◌, sym, subst₂, arith, rules}
+use Rattle.std.proofs.Common.{◌*◌, sym, subst₂, arith, rules}
 use Rattle.std.proofs.lemmas.Bool.Decides.{nat_tests}
 use Rattle.bus.specs.Frames.{Smallest, frame_bits}
 use Rattle.bus.proofs.Durations.{smallest_when_reached}

@@ -1,7 +1,7 @@
-use Rattle.std.proofs.Common.{◌≡◌, ℕ, ◌+◌, ◌-◌, ◌≤◌, true, List, length, sym, ap, ◌∙◌, subst, arith}
+use Rattle.std.proofs.Common.{◌≡◌, ◌+◌, ◌-◌, ◌≤◌, true, length, sym, ap, ◌∙◌, subst, arith}
 use borrow.Rule.Slice.PartMut.{put_mid}
 use Rattle.std.proofs.lemmas.Bool.{leb-true, cond-true}
-use Rattle.bus.specs.Triggers.{trigger_bytes, trigger_word, NamedIn, put_at, fits, written}
+use Rattle.bus.specs.Triggers.{trigger_bytes, trigger_word, NamedIn, put_at, fits}
 use Rattle.bus.proofs.Triggers.{named_by_bytes, part_written, put_at_holds, put_at_word}
 use Rattle.bus.proofs.trigger.write_trigger.Goals as goal
 

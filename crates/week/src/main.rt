@@ -24,16 +24,16 @@ fn figures(duration: u8, period: u8, deadline: u8, phase: u8) -> Figures {
 }
 
 fn monday(rt: &HostRuntime, crew: &mut Crew) -> io::Result<()> {
-    crew.window(rt, 36)?;
+    crew.window(rt, 40)?;
     crew.add(rt, GRADIOMETER, figures(12, 2, 2, 1))
 }
 
 // A resistance frame is hung beside it; a fourth row would make the wheel counter, row 7, late in the ninth cycle.
 fn tuesday(rt: &HostRuntime, crew: &mut Crew) -> io::Result<()> {
-    crew.add(rt, 5, figures(14, 6, 3, 1))?;
-    crew.add(rt, 6, figures(12, 2, 1, 1))?;
-    crew.add(rt, 7, figures(20, 6, 2, 1))?;
-    crew.add(rt, 8, figures(16, 4, 3, 0))
+    crew.add(rt, 5, figures(10, 3, 3, 1))?;
+    crew.add(rt, 6, figures(8, 2, 2, 2))?;
+    crew.add(rt, 7, figures(20, 4, 3, 2))?;
+    crew.add(rt, 8, figures(20, 2, 2, 4))
 }
 
 // The cart slows.
@@ -42,12 +42,10 @@ fn wednesday(rt: &HostRuntime, crew: &mut Crew) -> io::Result<()> {
     crew.policy(rt, Selector::EarliestDeadline)
 }
 
-// Row 5 is dropped while an instance of it waits.
 fn thursday(rt: &HostRuntime, crew: &mut Crew) -> io::Result<()> {
     crew.remove(rt, 5)?;
     crew.remove(rt, 6)?;
-    crew.window(rt, 60)?;
-    crew.add(rt, 9, figures(45, 3, 3, 2))
+    crew.window(rt, 60)
 }
 
 // Each message with its row: released, scheduled, waiting, withdrawn.
@@ -74,7 +72,7 @@ fn main(rt: HostRuntime) -> io::Result<()> {
     crew = crew.run(6, 0);
     rt.println("Tuesday")?;
     tuesday(&rt, &mut crew)?;
-    crew = crew.run(11, 0);
+    crew = crew.run(9, 0);
     rt.println("Wednesday")?;
     wednesday(&rt, &mut crew)?;
     crew = crew.run(5, 0);
@@ -82,9 +80,9 @@ fn main(rt: HostRuntime) -> io::Result<()> {
     crew = crew.run(2, 2);
     let lost = crew.lost_in_a_row();
     println!(rt; "  triggers lost in a row: {lost}")?;
-    crew = crew.run(2, 0);
+    crew = crew.run(5, 0);
     thursday(&rt, &mut crew)?;
-    crew = crew.run(6, 0);
+    crew = crew.run(8, 0);
     let count = crew.book.count;
     println!(rt; "Friday, after {count} cycles")?;
     friday(&rt, &crew.book)

@@ -1,5 +1,4 @@
 use Rattle.std.proofs.Common.{◌+◌, ◌*◌, sym, arith}
-use Rattle.lines.specs.Numbers.{value}
 use Rattle.lines.proofs.Sizes.{digit_more, past, whole}
 use Rattle.lines.proofs.number.read_number.Goals as goal
 

@@ -4,3 +4,5 @@
 pub mod change;
 pub mod master;
 pub mod watch;
+
+pub use rules::ledger;

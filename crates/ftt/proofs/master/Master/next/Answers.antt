@@ -1,5 +1,5 @@
 use Rattle.std.proofs.Common.{ap, ◌∙◌, arith}
-use Rattle.rules.specs.Calls.{schedule, counted, step, cycled}
+use Rattle.rules.specs.Calls.{schedule, counted, step}
 use Rattle.ftt.proofs.Soundness.{cycled_sound}
 use Rattle.ftt.proofs.Standing.{same_state}
 use Rattle.ftt.proofs.master.Master.next.Goals as goal

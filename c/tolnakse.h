@@ -1,6 +1,6 @@
 /* The dispatcher's calls into Tolnakse: plain calls on numbers and bytes.
  *
- * Link with libdispatch.a (`rt lib` in crates/dispatch makes out/libdispatch.a).
+ * Link with libdispatch.a (`.ci/dispatcher` makes target/staticlib/libdispatch.a).
  * Neither call allocates, keeps a pointer or has state, so both may be made from any place.
  * The parameters are narrow where the rules are: compile with -Wconversion, so that the
  * compiler says where a wider number would be cut on the way in.

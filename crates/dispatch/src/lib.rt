@@ -1,4 +1,4 @@
-// The plain calls of the dispatcher, a C program, on numbers and bytes. c/tolnakse.h declares them.
+// The plain calls of the dispatcher, a C program, on numbers and bytes; `dispatch_c` exports them.
 #![tactic(auto)]
 
 ghost use Rattle.std.specs.Prelude.{◌≡◌};
@@ -14,8 +14,7 @@ use bus::trigger::write_trigger;
 const REFUSED: u32 = 1_000;
 
 // The units of a frame with so many data bytes in a cycle of so many bit times, or 1,000 and the refusal's number.
-#[unsafe(no_mangle)]
-pub extern "C" fn tolnakse_frame_units(cycle_bits: u16, data_bytes: usize) -> u32
+pub fn tolnakse_frame_units(cycle_bits: u16, data_bytes: usize) -> u32
     ensures { result ≡ units_code (frame_answer cycle_bits data_bytes) }
 {
     match frame_units(cycle_bits, data_bytes) {
@@ -25,8 +24,7 @@ pub extern "C" fn tolnakse_frame_units(cycle_bits: u16, data_bytes: usize) -> u3
 }
 
 // Writes a trigger's four bytes at an offset of the buffer: 0, or the refusal's number and the buffer as it was.
-#[unsafe(no_mangle)]
-pub extern "C" fn tolnakse_write_trigger(word: u32, buffer: &mut [u8], offset: usize) -> u32
+pub fn tolnakse_write_trigger(word: u32, buffer: &mut [u8], offset: usize) -> u32
     ensures value { result ≡ written_code (write_answer buffer.old offset) }
     ensures after { buffer.new ≡ written word buffer.old offset }
 {

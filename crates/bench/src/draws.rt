@@ -15,7 +15,7 @@ pub trait Drawn: Policy + Drop {
 
 impl Drawn for Selector {
     fn drawn(random: &mut Random) -> Selector {
-        Selector::from_code(random.byte(4)).unwrap_or(Selector::RateMonotonic)
+        Selector::try_from(random.byte(4)).unwrap_or(Selector::RateMonotonic)
     }
 }
 

@@ -1,19 +1,38 @@
-// The four orders by one number of the instances: the smaller goes first, and of equal ones the lower row.
-ghost use Rattle.std.specs.Prelude.{◌≡◌};
-ghost use Rattle.orders.specs.ByKey.{smaller_first, rate_monotonic, deadline_monotonic, fixed_priority, earliest_deadline};
+// The four orders by one number of the instances, its key: the smaller goes first, and of equal ones the lower row.
+ghost use Rattle.std.specs.Prelude.{◌≡◌, ℕ};
+ghost use Rattle.orders.specs.ByKey.{by_key};
 ghost use Rattle.orders.specs.Lawful.{by_key_lawful};
+ghost use Rattle.orders.specs.declared.instance.Instance.{Instance};
 
-use crate::instance::{Cycles, Instance};
+use crate::instance::Instance;
 use crate::policy::Policy;
+use crate::selector::Selector;
 
-// The smaller key first, then the lower row; of one row neither.
-fn smaller_first(a_key: Cycles, a_row: u8, b_key: Cycles, b_row: u8) -> bool
-    ensures { result ≡ smaller_first a_key a_row b_key b_row }
-{
-    if a_key == b_key {
-        a_row < b_row
-    } else {
-        a_key < b_key && a_row != b_row
+// The number of an instance that an order goes by, and the order's code. Whatever has a key is a policy.
+pub trait Key {
+    ghost key: { Instance → ℕ };
+
+    ghost CODE: { ℕ };
+
+    const CODE: u8;
+
+    fn key(i: Instance) -> u8
+        ensures { result ≡ key i };
+}
+
+impl<K: Key> Policy for K {
+    ghost goes = { λ _. by_key K.key };
+
+    ghost label = { λ _. K.CODE };
+
+    ghost lawful = { λ _. by_key_lawful K.key };
+
+    fn goes_before(&self, a: Instance, b: Instance) -> bool {
+        a.row != b.row && (K::key(a), a.row) < (K::key(b), b.row)
+    }
+
+    fn label(&self) -> u8 {
+        K::CODE
     }
 }
 
@@ -21,19 +40,15 @@ fn smaller_first(a_key: Cycles, a_row: u8, b_key: Cycles, b_row: u8) -> bool
 #[derive(Clone, Copy)]
 pub struct RateMonotonic;
 
-impl Policy for RateMonotonic {
-    ghost goes = { λ _. rate_monotonic };
+impl Key for RateMonotonic {
+    ghost key = { λ i. i.period };
 
-    ghost label = { λ _. 0 };
+    ghost CODE = { 0 };
 
-    ghost lawful = { λ _. by_key_lawful (λ i. i.period) };
+    const CODE: u8 = Selector::RateMonotonic as u8;
 
-    fn goes_before(&self, a: Instance, b: Instance) -> bool {
-        smaller_first(a.period, a.row, b.period, b.row)
-    }
-
-    fn label(&self) -> u8 {
-        0
+    fn key(i: Instance) -> u8 {
+        i.period
     }
 }
 
@@ -41,19 +56,15 @@ impl Policy for RateMonotonic {
 #[derive(Clone, Copy)]
 pub struct DeadlineMonotonic;
 
-impl Policy for DeadlineMonotonic {
-    ghost goes = { λ _. deadline_monotonic };
+impl Key for DeadlineMonotonic {
+    ghost key = { λ i. i.deadline };
 
-    ghost label = { λ _. 1 };
+    ghost CODE = { 1 };
 
-    ghost lawful = { λ _. by_key_lawful (λ i. i.deadline) };
+    const CODE: u8 = Selector::DeadlineMonotonic as u8;
 
-    fn goes_before(&self, a: Instance, b: Instance) -> bool {
-        smaller_first(a.deadline, a.row, b.deadline, b.row)
-    }
-
-    fn label(&self) -> u8 {
-        1
+    fn key(i: Instance) -> u8 {
+        i.deadline
     }
 }
 
@@ -61,24 +72,15 @@ impl Policy for DeadlineMonotonic {
 #[derive(Clone, Copy)]
 pub struct FixedPriority;
 
-impl Policy for FixedPriority {
-    ghost goes = { λ _. fixed_priority };
+impl Key for FixedPriority {
+    ghost key = { λ i. i.priority };
 
-    ghost label = { λ _. 2 };
+    ghost CODE = { 2 };
 
-    ghost lawful = { λ _. by_key_lawful (λ i. i.priority) };
+    const CODE: u8 = Selector::FixedPriority as u8;
 
-    fn goes_before(&self, a: Instance, b: Instance) -> bool {
-        smaller_first(
-            Cycles::from(a.priority),
-            a.row,
-            Cycles::from(b.priority),
-            b.row,
-        )
-    }
-
-    fn label(&self) -> u8 {
-        2
+    fn key(i: Instance) -> u8 {
+        i.priority
     }
 }
 
@@ -86,18 +88,14 @@ impl Policy for FixedPriority {
 #[derive(Clone, Copy)]
 pub struct EarliestDeadline;
 
-impl Policy for EarliestDeadline {
-    ghost goes = { λ _. earliest_deadline };
+impl Key for EarliestDeadline {
+    ghost key = { λ i. i.left };
 
-    ghost label = { λ _. 3 };
+    ghost CODE = { 3 };
 
-    ghost lawful = { λ _. by_key_lawful (λ i. i.left) };
+    const CODE: u8 = Selector::EarliestDeadline as u8;
 
-    fn goes_before(&self, a: Instance, b: Instance) -> bool {
-        smaller_first(a.left, a.row, b.left, b.row)
-    }
-
-    fn label(&self) -> u8 {
-        3
+    fn key(i: Instance) -> u8 {
+        i.left
     }
 }

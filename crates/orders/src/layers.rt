@@ -1,11 +1,31 @@
 // Policies over a policy: a group of instances goes before all the others, and within it and outside it the policy
 // below decides. Layers pile up in any number.
-ghost use Rattle.std.specs.Prelude.{◌≡◌};
-ghost use Rattle.orders.specs.Groups.{is_urgent, is_pinned, urgent_first, pinned_first};
+ghost use Rattle.std.specs.Prelude.{◌≡◌, Bool};
+ghost use Rattle.orders.specs.Groups.{group_first, is_urgent, is_pinned, urgent_first, pinned_first};
 ghost use Rattle.orders.specs.Lawful.{group_first_lawful};
+ghost use Rattle.orders.specs.declared.instance.Instance.{Instance};
 
 use crate::instance::{Cycles, Instance};
 use crate::policy::Policy;
+
+// The instances that go before all the others.
+trait Group {
+    ghost contains: { Self → Instance → Bool };
+
+    fn contains(&self, i: Instance) -> bool
+        ensures { result ≡ contains self.now i };
+}
+
+// The group first, then the policy below; of one row neither.
+fn group_first<G: Group, P: Policy>(group: &G, below: &P, a: Instance, b: Instance) -> bool
+    ensures { result ≡ group_first (G.contains group.now) (P.goes below.now) a b }
+{
+    if group.contains(a) == group.contains(b) {
+        below.goes_before(a, b)
+    } else {
+        group.contains(a) && a.row != b.row
+    }
+}
 
 // Instances with at most `limit` cycles left go first.
 #[derive(Clone, Copy)]
@@ -14,27 +34,24 @@ pub struct Urgent<P> {
     pub below: P,
 }
 
-impl<P> Urgent<P> {
-    fn is_urgent(&self, i: Instance) -> bool
-        ensures { result ≡ is_urgent self.now.limit i }
-    {
+impl<P> Group for Urgent<P> {
+    ghost contains = { λ u. is_urgent u.limit };
+
+    fn contains(&self, i: Instance) -> bool {
         i.left <= self.limit
     }
 }
 
+// An impl for each layer: one for every `Group` would overlap with the one for every `Key`.
 impl<P: Policy> Policy for Urgent<P> {
-    ghost goes = { λ u. urgent_first u.limit (P.Policy.goes u.below) };
+    ghost goes = { λ u. urgent_first u.limit (P.goes u.below) };
 
     ghost label = { λ _. 4 };
 
-    ghost lawful = { λ p. group_first_lawful (is_urgent p.limit) _ (P.Policy.lawful p.below) };
+    ghost lawful = { λ u. group_first_lawful (is_urgent u.limit) _ (P.lawful u.below) };
 
     fn goes_before(&self, a: Instance, b: Instance) -> bool {
-        if self.is_urgent(a) == self.is_urgent(b) {
-            self.below.goes_before(a, b)
-        } else {
-            self.is_urgent(a) && a.row != b.row
-        }
+        group_first(self, &self.below, a, b)
     }
 
     fn label(&self) -> u8 {
@@ -51,27 +68,23 @@ pub struct Pinned<P> {
 
 const LAST_ROW: u8 = 31;
 
-impl<P> Pinned<P> {
-    fn is_pinned(&self, i: Instance) -> bool
-        ensures { result ≡ is_pinned self.now.row i }
-    {
+impl<P> Group for Pinned<P> {
+    ghost contains = { λ p. is_pinned p.row };
+
+    fn contains(&self, i: Instance) -> bool {
         i.row == self.row && self.row <= LAST_ROW
     }
 }
 
 impl<P: Policy> Policy for Pinned<P> {
-    ghost goes = { λ p. pinned_first p.row (P.Policy.goes p.below) };
+    ghost goes = { λ p. pinned_first p.row (P.goes p.below) };
 
     ghost label = { λ _. 5 };
 
-    ghost lawful = { λ p. group_first_lawful (is_pinned p.row) _ (P.Policy.lawful p.below) };
+    ghost lawful = { λ p. group_first_lawful (is_pinned p.row) _ (P.lawful p.below) };
 
     fn goes_before(&self, a: Instance, b: Instance) -> bool {
-        if self.is_pinned(a) == self.is_pinned(b) {
-            self.below.goes_before(a, b)
-        } else {
-            self.is_pinned(a)
-        }
+        group_first(self, &self.below, a, b)
     }
 
     fn label(&self) -> u8 {

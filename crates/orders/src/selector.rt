@@ -1,5 +1,5 @@
 // A policy picked by its code.
-ghost use Rattle.std.specs.Prelude.{◌≡◌};
+ghost use Rattle.std.specs.Prelude.{◌≡◌, ok_or};
 ghost use Rattle.orders.specs.Coded.{coded, code_of, order_of};
 ghost use Rattle.orders.specs.declared.selector.Selector.TheVariants.{RateMonotonic, DeadlineMonotonic, FixedPriority, EarliestDeadline};
 ghost use Rattle.orders.specs.Lawful.{by_key_lawful};
@@ -8,26 +8,32 @@ use crate::instance::Instance;
 use crate::keyed::{DeadlineMonotonic, EarliestDeadline, FixedPriority, RateMonotonic};
 use crate::policy::Policy;
 
-// Orders and labels as the policy that it names.
+// Orders and labels as the policy that it names. The number of each is its code.
 #[derive(Clone, Copy, PartialEq, Eq, Debug)]
 pub enum Selector {
-    RateMonotonic,
-    DeadlineMonotonic,
-    FixedPriority,
-    EarliestDeadline,
+    RateMonotonic = 0,
+    DeadlineMonotonic = 1,
+    FixedPriority = 2,
+    EarliestDeadline = 3,
 }
 
-impl Selector {
-    // Codes 0 to 3; any other code selects nothing.
-    pub fn from_code(code: u8) -> Option<Selector>
-        ensures { result ≡ coded code }
-    {
+// A code that selects nothing.
+#[derive(Clone, Copy, PartialEq, Eq, Debug)]
+pub struct UnknownCode(pub u8);
+
+// Codes 0 to 3; any other code selects nothing.
+impl TryFrom<u8> for Selector {
+    type Error = UnknownCode;
+
+    ghost try_from_gives = { λ code r. r ≡ ok_or (coded code) (record { 0 = code }) };
+
+    fn try_from(code: u8) -> Result<Selector, UnknownCode> {
         match code {
-            0 => Some(Selector::RateMonotonic),
-            1 => Some(Selector::DeadlineMonotonic),
-            2 => Some(Selector::FixedPriority),
-            3 => Some(Selector::EarliestDeadline),
-            _ => None,
+            0 => Ok(Selector::RateMonotonic),
+            1 => Ok(Selector::DeadlineMonotonic),
+            2 => Ok(Selector::FixedPriority),
+            3 => Ok(Selector::EarliestDeadline),
+            _ => Err(UnknownCode(code)),
         }
     }
 }
@@ -54,11 +60,6 @@ impl Policy for Selector {
     }
 
     fn label(&self) -> u8 {
-        match self {
-            Selector::RateMonotonic => RateMonotonic.label(),
-            Selector::DeadlineMonotonic => DeadlineMonotonic.label(),
-            Selector::FixedPriority => FixedPriority.label(),
-            Selector::EarliestDeadline => EarliestDeadline.label(),
-        }
+        *self as u8
     }
 }

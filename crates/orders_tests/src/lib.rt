@@ -2,12 +2,16 @@
 #![tactic(auto)]
 
 #[cfg(test)]
+mod own;
+
+#[cfg(test)]
 mod tests {
+    use crate::own::{LongerFirst, LowerRow};
     use orders::instance::Instance;
     use orders::keyed::{DeadlineMonotonic, EarliestDeadline, FixedPriority, RateMonotonic};
     use orders::layers::{Pinned, Urgent};
     use orders::policy::Policy;
-    use orders::selector::Selector;
+    use orders::selector::{Selector, UnknownCode};
     use std::process::Abort;
     use std::test::Fail;
 
@@ -54,15 +58,31 @@ mod tests {
         orders_by(&rt, &EarliestDeadline, Selector::EarliestDeadline, 3);
     }
 
+    // One with a key of its own, and one with an order of its own.
+    #[test]
+    fn own_policies(rt: HostRuntime) {
+        let i = alike(9);
+        let longer = Instance { duration: 5, ..i };
+        assert!(rt; goes(&LongerFirst, longer, alike(1)) & goes(&LongerFirst, alike(1), i));
+        assert!(rt; goes(&LowerRow, alike(1), longer) & goes(&LowerRow, longer, alike(10)));
+        let pile = Pinned {
+            row: 7,
+            below: LowerRow,
+        };
+        assert!(rt; goes(&pile, alike(7), alike(1)) & goes(&pile, alike(1), alike(2)));
+        assert_eq!(rt; LongerFirst.label(), 2);
+        assert_eq!(rt; LowerRow.label(), 6);
+    }
+
     #[test]
     fn each_code(rt: HostRuntime) -> Result<(), Fail> {
         for code in 0..4 {
-            let Some(selector) = Selector::from_code(code) else {
-                return Err(Fail::new("no selector"));
-            };
+            let selector = Selector::try_from(code)?;
             orders_by(&rt, &selector, selector, code);
         }
-        assert!(rt; Selector::from_code(4).is_none() & Selector::from_code(255).is_none());
+        for code in [4, 255] {
+            assert_eq!(rt; Selector::try_from(code), Err(UnknownCode(code)));
+        }
         Ok(())
     }
 

@@ -1,4 +1,4 @@
-pub mod Durations
+pub mod Made
 pub mod Rounding
 pub mod Triggers
 pub mod Words

@@ -1,5 +1,5 @@
 -- What rounding a quotient up gives. Assumes nothing.
-use Rattle.std.proofs.Common.{◌≡◌, ℕ, ◌+◌, ◌*◌, ◌/◌, ◌%◌, ◌<◌, ◌≤◌, min, sym, subst, ⊎_elim, mul-le-mul_right, mod-lt, add-mul, one-mul, div-add-mod', arith}
+use Rattle.std.proofs.Common.{◌≡◌, ℕ, ◌+◌, ◌*◌, ◌/◌, ◌%◌, ◌<◌, ◌≤◌, min, sym, subst, ⊎_elim, mod-lt, add-mul, one-mul, div-add-mod', arith}
 use native.Mathlib.Nat.{div-eq_of_lt-le}
 use Rattle.std.proofs.lemmas.Bool.{cases_lt}
 use Rattle.bus.specs.Frames.{rounded_up}
@@ -27,11 +27,3 @@ ceil_reaches n by pos =
 
 pub reaches_is : (n by q : ℕ) → Reaches n by q → q ≡ rounded_up n by
 reaches_is n by q r = sym (div-eq_of_lt-le {k = q} by (omega arith) (omega (arith, turn q by)))
-
--- no smaller number reaches n
-pub reaches_least : (n by q others : ℕ) → Reaches n by q → n ≤ others * by → q ≤ others
-reaches_least n by q others r reach =
-    ⊎_elim
-    (λ (fewer : others < q). absurd (omega (arith, turn others by, mul-le-mul_right {m = others + 1} {n = q} by (omega arith))))
-    (λ h. h)
-    (cases_lt others q)

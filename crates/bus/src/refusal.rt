@@ -2,13 +2,13 @@
 ghost use Rattle.std.specs.Prelude.{◌≡◌};
 ghost use Rattle.bus.specs.Refusals.{field_number, told};
 
-// A figure of a change that can be out of range.
+// A figure of a change that can be out of range, with the number by which it is told.
 #[derive(Clone, Copy, PartialEq, Eq, Debug)]
 pub enum Field {
-    Duration,
-    Period,
-    Deadline,
-    Window,
+    Duration = 1,
+    Period = 2,
+    Deadline = 3,
+    Window = 4,
 }
 
 impl Field {
@@ -16,12 +16,7 @@ impl Field {
     pub fn number(self) -> u8
         ensures { result ≡ field_number self }
     {
-        match self {
-            Field::Duration => 1,
-            Field::Period => 2,
-            Field::Deadline => 3,
-            Field::Window => 4,
-        }
+        self as u8
     }
 }
 
@@ -62,7 +57,7 @@ pub enum Refusal {
 }
 
 impl Refusal {
-    // The number by which the refusal is known outside.
+    // The number by which the refusal is known outside. A match: `as` takes no enum whose variants have fields.
     pub fn number(self) -> u8
         ensures { result ≡ (told self).number }
     {
@@ -70,19 +65,19 @@ impl Refusal {
             Refusal::RowAbove31 => 1,
             Refusal::RowUsed => 2,
             Refusal::RowEmpty => 3,
-            Refusal::OutOfRange { field: _ } => 4,
-            Refusal::AboveWindow { row: _ } => 5,
+            Refusal::OutOfRange { .. } => 4,
+            Refusal::AboveWindow { .. } => 5,
             Refusal::RoundTooLong => 6,
-            Refusal::Late { row: _, cycle: _ } => 7,
+            Refusal::Late { .. } => 7,
             Refusal::Unsettled => 8,
             Refusal::PlanLength => 9,
             Refusal::OffsetTooHigh => 10,
             Refusal::TooManyDataBytes => 11,
             Refusal::FrameTooLong => 12,
-            Refusal::BadSign { place: _ } => 13,
-            Refusal::BadItem { place: _ } => 14,
-            Refusal::BadNumber { place: _ } => 15,
-            Refusal::BufferTooShort { needed: _ } => 16,
+            Refusal::BadSign { .. } => 13,
+            Refusal::BadItem { .. } => 14,
+            Refusal::BadNumber { .. } => 15,
+            Refusal::BufferTooShort { .. } => 16,
         }
     }
 }

@@ -2,6 +2,8 @@
 ghost use Rattle.std.specs.Prelude.{◌≡◌};
 ghost use Rattle.bus.specs.Rows.{member, members, word_of};
 
+use std::array;
+
 // The table's rows are 0 to 31.
 pub const ROWS: usize = 32;
 
@@ -19,14 +21,15 @@ impl RowSet {
         row < 32 && self.word >> row & 1 == 1
     }
 
-    // The set of the rows whose place is true.
+    // The set of the rows whose place is true. This and `to_rows` are methods, since `From` would be called by
+    // `<[bool; ROWS]>::from(set)`, and say both facts in one.
     pub fn from_rows(rows: &[bool; ROWS]) -> RowSet
         ensures value { result.word ≡ word_of rows.now }
         ensures kept { members 32 result.word ≡ rows.now }
     {
         let mut word = 0;
-        for r in 0..ROWS {
-            if rows[r] {
+        for (r, in_set) in rows.iter().enumerate() {
+            if *in_set {
                 word |= 1 << r;
             }
         }
@@ -38,10 +41,6 @@ impl RowSet {
         ensures value { result ≡ members 32 self.word }
         ensures kept { word_of result ≡ self.word }
     {
-        let mut rows = [false; ROWS];
-        for r in 0..ROWS {
-            rows[r] = self.word >> r & 1 == 1;
-        }
-        rows
+        array::from_fn(|r| self.word >> r & 1 == 1)
     }
 }

@@ -43,16 +43,11 @@ pub fn read_trigger(buffer: &[u8], offset: usize) -> Result<RowSet, Refusal>
     ensures places { IfOk result (λ rows. NamedIn rows.word buffer.now offset) }
     ensures writes_back { IfOk result (λ rows. put_at offset (trigger_bytes rows.word) buffer.now ≡ buffer.now) }
 {
-    if !fits(buffer.len(), offset) {
-        return Err(Refusal::OffsetTooHigh);
-    }
-    let bytes = [
-        buffer[offset],
-        buffer[offset + 1],
-        buffer[offset + 2],
-        buffer[offset + 3],
-    ];
+    let bytes = buffer
+        .get(offset..)
+        .and_then(|rest| rest.first_chunk::<TRIGGER_BYTES>())
+        .ok_or(Refusal::OffsetTooHigh)?;
     Ok(RowSet {
-        word: u32::from_le_bytes(bytes),
+        word: u32::from_le_bytes(*bytes),
     })
 }

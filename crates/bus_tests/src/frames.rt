@@ -3,12 +3,9 @@ use bus::refusal::Refusal;
 
 // The bit times of a frame: the shortest cycle that it fits into.
 fn frame_bits(data_bytes: usize) -> u32 {
-    for cycle_bits in 0..=u16::MAX {
-        if frame_units(cycle_bits, data_bytes).is_ok() {
-            return u32::from(cycle_bits);
-        }
-    }
-    0
+    (0..=u16::MAX)
+        .find(|cycle_bits| frame_units(*cycle_bits, data_bytes).is_ok())
+        .map_or(0, u32::from)
 }
 
 #[test]

@@ -1,4 +1,5 @@
 // The plain calls of the dispatcher, a C program, on numbers and bytes; `dispatch_c` exports them.
+// C has no `Result`, so an answer is one number.
 #![tactic(auto)]
 
 ghost use Rattle.std.specs.Prelude.{◌≡◌};

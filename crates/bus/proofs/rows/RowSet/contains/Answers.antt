@@ -1,10 +1,7 @@
 use Rattle.std.proofs.Common.{sym, ◌∙◌, arith}
 use Rattle.std.proofs.lemmas.Bool.{le-ltb}
-use Rattle.bus.proofs.Words.{tests_member, no_member_past}
+use Rattle.bus.proofs.Words.{no_member_past}
 use Rattle.bus.proofs.rows.RowSet.contains.Goals as goal
-
-pub returns-then-row-lt32 : goal.returns-then-row-lt32
-returns-then-row-lt32 c = tests_member c.args.self.word c.args.row
 
 pub returns-else-row-lt32 : goal.returns-else-row-lt32
 returns-else-row-lt32 c = le-ltb _ _ (omega arith) ∙ sym (no_member_past c.args.self.word 32 c.args.row (omega arith) (omega arith))

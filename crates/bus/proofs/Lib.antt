@@ -1,4 +1,6 @@
+pub mod Lowest
 pub mod Made
+pub mod Rising
 pub mod Rounding
 pub mod Triggers
 pub mod Words

@@ -1,6 +1,7 @@
 // A set of rows, as a cycle's schedule names it.
 ghost use Rattle.std.specs.Prelude.{◌≡◌};
-ghost use Rattle.bus.specs.Rows.{member, members, word_of};
+ghost use Rattle.std.specs.Iterator.{YieldsFirst, item_count};
+ghost use Rattle.bus.specs.Rows.{member, members, rows_of, word_of};
 
 use std::array;
 
@@ -42,5 +43,41 @@ impl RowSet {
         ensures kept { word_of result ≡ self.word }
     {
         array::from_fn(|r| self.word >> r & 1 == 1)
+    }
+}
+
+// The rows of a set, the lowest first.
+impl IntoIterator for RowSet {
+    type Item = u8;
+
+    type IntoIter = Members;
+
+    ghost into_iter_gives = { λ set members. members.rest ≡ set.word };
+
+    fn into_iter(self) -> Members {
+        Members { rest: self.word }
+    }
+}
+
+// The rows of a set that are still to come, as the bits of a word.
+#[derive(Clone, Copy, PartialEq, Eq, Debug)]
+pub struct Members {
+    pub rest: u32,
+}
+
+impl Iterator for Members {
+    type Item = u8;
+
+    ghost next_gives = { YieldsFirst (λ m. rows_of m.rest) };
+
+    ghost remaining = { item_count (λ m. rows_of m.rest) };
+
+    fn next(&mut self) -> Option<u8> {
+        if self.rest == 0 {
+            return None;
+        }
+        let row = self.rest.trailing_zeros() as u8;
+        self.rest &= self.rest - 1;
+        Some(row)
     }
 }

@@ -40,3 +40,14 @@ fn names_rows(rt: HostRuntime) {
     assert_eq!(rt; RowSet::from_rows(&rows), WORKED);
     assert_eq!(rt; WORKED.to_rows(), rows);
 }
+
+#[test]
+fn goes_over_rows(rt: HostRuntime) {
+    let mut rows = WORKED.into_iter();
+    assert_eq!(rt; rows.next(), Some(0));
+    assert_eq!(rt; rows.next(), Some(9));
+    assert_eq!(rt; rows.next(), Some(31));
+    assert_eq!(rt; rows.next(), None);
+    assert_eq!(rt; RowSet { word: 0 }.into_iter().next(), None);
+    assert_eq!(rt; RowSet { word: u32::MAX }.into_iter().nth(31), Some(31));
+}

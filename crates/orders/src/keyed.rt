@@ -4,11 +4,12 @@ ghost use Rattle.orders.specs.ByKey.{by_key};
 ghost use Rattle.orders.specs.Lawful.{by_key_lawful};
 ghost use Rattle.orders.specs.declared.instance.Instance.{Instance};
 
-use crate::instance::Instance;
+use crate::instance::{Cycles, Instance};
 use crate::policy::Policy;
 use crate::selector::Selector;
 
-// The number of an instance that an order goes by, and the order's code. Whatever has a key is a policy.
+// The number of an instance that an order goes by, as wide as cycles are, and the order's code. Whatever has a key is a
+// policy.
 pub trait Key {
     ghost key: { Instance → ℕ };
 
@@ -16,7 +17,7 @@ pub trait Key {
 
     const CODE: u8;
 
-    fn key(i: Instance) -> u8
+    fn key(i: Instance) -> Cycles
         ensures { result ≡ key i };
 }
 
@@ -47,7 +48,7 @@ impl Key for RateMonotonic {
 
     const CODE: u8 = Selector::RateMonotonic as u8;
 
-    fn key(i: Instance) -> u8 {
+    fn key(i: Instance) -> Cycles {
         i.period
     }
 }
@@ -63,7 +64,7 @@ impl Key for DeadlineMonotonic {
 
     const CODE: u8 = Selector::DeadlineMonotonic as u8;
 
-    fn key(i: Instance) -> u8 {
+    fn key(i: Instance) -> Cycles {
         i.deadline
     }
 }
@@ -79,8 +80,8 @@ impl Key for FixedPriority {
 
     const CODE: u8 = Selector::FixedPriority as u8;
 
-    fn key(i: Instance) -> u8 {
-        i.priority
+    fn key(i: Instance) -> Cycles {
+        Cycles::from(i.priority)
     }
 }
 
@@ -95,7 +96,7 @@ impl Key for EarliestDeadline {
 
     const CODE: u8 = Selector::EarliestDeadline as u8;
 
-    fn key(i: Instance) -> u8 {
+    fn key(i: Instance) -> Cycles {
         i.left
     }
 }

@@ -2,7 +2,7 @@
 ghost use Rattle.std.specs.Prelude.{ℕ, ◌-◌, nat_lt};
 ghost use Rattle.orders_tests.specs.Own.{lower_row, lower_row_lawful};
 
-use orders::instance::Instance;
+use orders::instance::{Cycles, Instance};
 use orders::keyed::Key;
 use orders::policy::Policy;
 use orders::selector::Selector;
@@ -18,8 +18,8 @@ impl Key for LongerFirst {
 
     const CODE: u8 = Selector::FixedPriority as u8;
 
-    fn key(i: Instance) -> u8 {
-        u8::MAX - i.duration
+    fn key(i: Instance) -> Cycles {
+        Cycles::from(u8::MAX - i.duration)
     }
 }
 

@@ -1,18 +1,13 @@
 -- The lowest row of a word, and the word without it. Assumes nothing.
-use Rattle.std.proofs.Common.{◌≡◌, ℕ, zero, suc, ◌+◌, ◌-◌, ◌*◌, ◌/◌, ◌%◌, ◌^◌, ◌<◌, min, Bool, true, false, not, ◌&&◌, eqb, sym, refl, ap, ◌∙◌, subst, ap₂, ⊎_elim, inl, inr, arith}
+use Rattle.std.proofs.Common.{◌≡◌, ℕ, zero, suc, ◌+◌, ◌-◌, ◌*◌, ◌/◌, ◌%◌, ◌^◌, ◌<◌, min, true, false, not, ◌&&◌, eqb, sym, refl, ap, ◌∙◌, subst, ap₂, inl, inr, arith}
 use native.Mathlib.Nat.{pow-succ'}
 use lib.Bits.{bit_and, and_step, and_self}
 use lib.Count.{count_trailing_zeros, under}
 use Rattle.std.proofs.lemmas.Bool.{eq-eqb, ne_eqb, and_right, and_left, cases_eq}
+use Rattle.std.proofs.Math.Bool.{and-true}
+use Rattle.std.proofs.Math.Dec.{eqb-suc-suc}
 use Rattle.bus.specs.Rows.{member}
 use Rattle.bus.proofs.Words.{member_suc}
-
-eqb_suc : (a b : ℕ) → eqb a b ≡ eqb (suc a) (suc b)
-eqb_suc a b =
-    ⊎_elim
-    (λ (same : a ≡ b). eq-eqb a b same ∙ sym (eq-eqb (suc a) (suc b) (ap suc same)))
-    (λ (other : a ≡ b → ⊥). ne_eqb a b other ∙ sym (ne_eqb (suc a) (suc b) (λ e. other (omega arith))))
-    (cases_eq a b)
 
 -- s is the lowest row of a word, and the code takes it out
 pub record Lowest (s w : ℕ) : Type 0 where
@@ -41,11 +36,7 @@ when_odd w odd =
     each : bit_and w (w - 1) ≡ w / 2 * 2 + 0 → (j : ℕ) → member (bit_and w (w - 1)) j ≡ (member w j && not (eqb j 0))
     each rest zero = bit_clear (bit_and w (w - 1)) (omega arith) ∙ sym (and_right (member w 0) _ refl)
     each rest (suc j) =
-        member_half (bit_and w (w - 1)) (w / 2) j (omega arith) ∙ sym (member_suc w j) ∙ keep (member w (suc j)) ∙ ap (λ b. member w (suc j) && not b) (sym (ne_eqb (suc j) 0 (λ e. omega arith)))
-      where
-        keep : (b : Bool) → b ≡ (b && true)
-        keep true = refl
-        keep false = refl
+        member_half (bit_and w (w - 1)) (w / 2) j (omega arith) ∙ sym (member_suc w j) ∙ sym (and-true (member w (suc j))) ∙ ap (λ b. member w (suc j) && not b) (sym (ne_eqb (suc j) 0 (λ e. omega arith)))
 
 when_even : (w s : ℕ) → 0 < w → w % 2 ≡ 0 → Lowest s (w / 2) → Lowest (suc s) w
 when_even w s some even half =
@@ -61,7 +52,7 @@ when_even w s some even half =
     each : bit_and w (w - 1) ≡ bit_and (w / 2) (w / 2 - 1) * 2 + 0 → (j : ℕ) → member (bit_and w (w - 1)) j ≡ (member w j && not (eqb j (suc s)))
     each rest zero = bit_clear (bit_and w (w - 1)) (omega arith) ∙ sym (and_left (member w 0) _ (bit_clear w even))
     each rest (suc j) =
-        member_half (bit_and w (w - 1)) (bit_and (w / 2) (w / 2 - 1)) j (omega arith) ∙ half.cleared j ∙ ap₂ (λ a b. a && not b) (sym (member_suc w j)) (eqb_suc j s)
+        member_half (bit_and w (w - 1)) (bit_and (w / 2) (w / 2 - 1)) j (omega arith) ∙ half.cleared j ∙ ap₂ (λ a b. a && not b) (sym (member_suc w j)) (sym (eqb-suc-suc j s))
 
 zeros_odd : (k w : ℕ) → w % 2 ≡ 1 → count_trailing_zeros (suc k) w ≡ 0
 unfolding count_trailing_zeros

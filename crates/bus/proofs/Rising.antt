@@ -3,7 +3,8 @@ use Rattle.std.proofs.Common.{◌≡◌, ℕ, zero, suc, ◌+◌, ◌-◌, ◌^�
 use lib.Bits.{bit_and}
 use lib.Count.{count_trailing_zeros}
 use Rattle.std.specs.List.{filter, range_with_len}
-use Rattle.std.proofs.lemmas.Bool.{eq-eqb, ne_eqb, and_right, cases_lt, false≢true}
+use Rattle.std.proofs.lemmas.Bool.{eq-eqb, ne_eqb, and_right, cases_Bool, cases_lt, false≢true}
+use Rattle.std.proofs.Math.Bool.{and-true}
 use Rattle.bus.specs.Rows.{member, rows_of}
 use Rattle.bus.proofs.Words.{no_member_past}
 use Rattle.bus.proofs.Lowest.{lowest_row}
@@ -18,10 +19,6 @@ kept_passes p a n is = ap (λ b. cond b (a ∷ kept p (a + 1) n) (kept p (a + 1)
 kept_fails : (p : ℕ → Bool) (a n : ℕ) → p a ≡ false → kept p a (suc n) ≡ kept p (a + 1) n
 kept_fails p a n is = ap (λ b. cond b (a ∷ kept p (a + 1) n) (kept p (a + 1) n)) is
 
-cases_bool : (b : Bool) → (b ≡ true) ⊎ (b ≡ false)
-cases_bool true = inl refl
-cases_bool false = inr refl
-
 kept_none : (p : ℕ → Bool) (a n : ℕ) → ((j : ℕ) → a ≤ j → j < a + n → p j ≡ false) → kept p a n ≡ []
 kept_none p a zero none = refl
 kept_none p a (suc n) none = kept_fails p a n (none a (omega arith) (omega arith)) ∙ kept_none p (a + 1) n (λ j on few. none j (omega arith) (omega arith))
@@ -31,7 +28,7 @@ kept_same p q a zero same = refl
 kept_same p q a (suc n) same =
     let rest : kept p (a + 1) n ≡ kept q (a + 1) n = kept_same p q (a + 1) n (λ j on few. same j (omega arith) (omega arith)) in
     let here : p a ≡ q a = same a (omega arith) (omega arith) in
-    elim (cases_bool (p a)) [
+    elim (cases_Bool (p a)) [
       | inl passes ↦ kept_passes p a n passes ∙ ap (λ xs. a ∷ xs) rest ∙ sym (kept_passes q a n (sym here ∙ passes))
       | inr fails ↦ kept_fails p a n fails ∙ rest ∙ sym (kept_fails q a n (sym here ∙ fails))
     ]
@@ -47,13 +44,9 @@ kept_first p q s a (suc n) on few is none without =
       | inr past ↦
           let here : a ≡ s = omega arith in
           let out : q a ≡ false = without a ∙ and_right (p a) _ (ap not (eq-eqb a s here)) in
-          let rest : kept p (a + 1) n ≡ kept q (a + 1) n = kept_same p q (a + 1) n (λ j later few'. sym (without j ∙ ap (λ b. p j && not b) (ne_eqb j s (λ e. omega arith)) ∙ keep (p j))) in
+          let rest : kept p (a + 1) n ≡ kept q (a + 1) n = kept_same p q (a + 1) n (λ j later few'. sym (without j ∙ ap (λ b. p j && not b) (ne_eqb j s (λ e. omega arith)) ∙ and-true (p j))) in
           kept_passes p a n (subst (λ k. p k ≡ true) (sym here) is) ∙ ap (λ xs. a ∷ xs) rest ∙ ap (λ k. k ∷ kept q (a + 1) n) here ∙ ap (λ xs. s ∷ xs) (sym (kept_fails q a n out))
     ]
-  where
-    keep : (b : Bool) → (b && true) ≡ b
-    keep true = refl
-    keep false = refl
 
 -- the first of them, x
 record Begins (p : ℕ → Bool) (x a n : ℕ) : Type 0 where
@@ -65,7 +58,7 @@ record Begins (p : ℕ → Bool) (x a n : ℕ) : Type 0 where
 begins : (p : ℕ → Bool) (x a n : ℕ) (others : List ℕ) → kept p a n ≡ x ∷ others → Begins p x a n
 begins p x a zero others e = absurd cc
 begins p x a (suc n) others e =
-    elim (cases_bool (p a)) [
+    elim (cases_Bool (p a)) [
       | inl passes ↦
           let here : a ≡ x = cc (kept_passes p a n passes) in
           record { on = omega arith; inside = omega arith; is = subst (λ k. p k ≡ true) here passes; none = λ j on before. absurd (omega arith) }
@@ -84,7 +77,7 @@ begins p x a (suc n) others e =
 kept_agree : (p q : ℕ → Bool) (a n : ℕ) → kept p a n ≡ kept q a n → (j : ℕ) → a ≤ j → j < a + n → p j ≡ q j
 kept_agree p q a zero e j on few = absurd (omega arith)
 kept_agree p q a (suc n) e j on few =
-    agree_here (λ rest past. kept_agree p q (a + 1) n rest j (omega arith) (omega arith)) (cases_bool (p a)) (cases_bool (q a)) (cases_lt a j)
+    agree_here (λ rest past. kept_agree p q (a + 1) n rest j (omega arith) (omega arith)) (cases_Bool (p a)) (cases_Bool (q a)) (cases_lt a j)
   where
     agree_here : (kept p (a + 1) n ≡ kept q (a + 1) n → a < j → p j ≡ q j) → (p a ≡ true) ⊎ (p a ≡ false) → (q a ≡ true) ⊎ (q a ≡ false) → (a < j) ⊎ (j ≤ a) → p j ≡ q j
     agree_here later (inl holds) (inl too) (inl past) =

@@ -38,6 +38,7 @@ impl TryFrom<u8> for Selector {
     }
 }
 
+// A match and no function that is kept: a selector is a plain value, which is compared and copied.
 impl Policy for Selector {
     ghost goes = { order_of };
 

@@ -1,4 +1,3 @@
 pub mod Held
 pub mod Questions
-pub mod Tables
 pub mod Told

@@ -1,11 +1,9 @@
 -- Answers of the code as they are told outside. Assumes nothing.
-use Rattle.std.specs.Prelude.{ℕ, [], ◌∷◌, Some, None, Ok, Err, Option, Result}
+use Rattle.std.specs.Prelude.{◌≡◌, Some, None, Ok, Err, Option, Result}
 use Rattle.bus.specs.declared.refusal.Refusal.{Refusal}
-use Rattle.bus.specs.Refusals.{Told, told, numbered}
+use Rattle.bus.specs.Refusals.{Told, told}
 use Rattle.orders.specs.Laws.{Order}
-use Rattle.engine.specs.declared.verdict.Verdict.{Verdict}
-use Rattle.engine.specs.declared.verdict.Verdict.TheVariants.{Settled, Late, Unsettled}
-use Rattle.engine.specs.Cycle.{first_of}
+use Rattle.rules.specs.Calls as rules
 use Rattle.rules.specs.Calls.{Answer, Call, State, Outcome, checks, outcome}
 use Rattle.rules.specs.Calls.Answer.{made, declined}
 
@@ -19,17 +17,18 @@ abbrev pub told_answer : {T : Type 0} → Result T Refusal → Answer
 told_answer (Ok x) = made
 told_answer (Err e) = declined (told e)
 
-abbrev pub refused_by : {P : Type 0} → Outcome P → Option Told
-refused_by (Ok s) = None
-refused_by (Err told) = Some told
+-- a result as the rules have it: the state that its value makes, or the refusal
+abbrev pub told_outcome : {P T : Type 0} → (T → State P) → Result T Refusal → Outcome P
+told_outcome makes (Ok x) = Ok (makes x)
+told_outcome makes (Err e) = Err (told e)
 
--- the refusal that a rehearsal comes to
-abbrev pub refusal_by : Option Verdict → Option Told
-refusal_by None = Some (numbered 6 [])
-refusal_by (Some Settled) = None
-refusal_by (Some (Late row cycle)) = Some (numbered 7 (row ∷ cycle ∷ []))
-refusal_by (Some Unsettled) = Some (numbered 8 [])
+-- the rules of a master: 32 rows, and rounds of up to 5040 cycles
+module _ {P : Type 0} (goes : P → Order) where
+  -- what a call comes to: the first refusal of its checks, or its outcome
+  abbrev pub comes_to : State P → Call P → Outcome P
+  comes_to s call = elim (checks goes 32 5040 s call) [ Some told ↦ Err told | None ↦ outcome goes 32 5040 s call ]
 
--- the refusal that a change comes to, if any
-abbrev pub refusal_to : {P : Type 0} → (P → Order) → (rows limit : ℕ) → State P → Call P → Option Told
-refusal_to goes rows limit s call = first_of (checks goes rows limit s call) (refused_by (outcome goes rows limit s call))
+  -- a change is answered, and leaves the state, as the rules say
+  pub record Follows (old : State P) (call : Call P) (result : Result (Unit {0}) Refusal) (new : State P) : Type 0 where
+    pub answer : told_answer result ≡ rules.answer goes 32 5040 old call
+    pub after : new ≡ rules.after goes 32 5040 old call

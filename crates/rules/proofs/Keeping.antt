@@ -23,7 +23,7 @@ use Rattle.rules.proofs.Turn.{turn_tie}
 
 -- CHECKS that are passed
 
-passed : (b : Bool) (told : Told) → refused_if b told ≡ None → b ≡ false
+pub passed : (b : Bool) (told : Told) → refused_if b told ≡ None → b ≡ false
 passed true told e = absurd (some_is_none e)
 passed false told e = refl
 
@@ -32,7 +32,7 @@ empty_when_unused None e = refl
 empty_when_unused (Some x) e = absurd (true≢false e)
 
 -- a new row whose figures are in range is sound
-new_sound : (f : Figures) → in_range f ≡ None → sound (new_row f) ≡ true
+pub new_sound : (f : Figures) → in_range f ≡ None → sound (new_row f) ≡ true
 new_sound f e =
     let a = first_none (refused_if (eqb f.duration 0) (numbered 4 (1 ∷ []))) _ e in
     let b = first_none (refused_if (eqb f.period 0) (numbered 4 (2 ∷ []))) _ a.1 in

@@ -36,9 +36,7 @@ impl<P: Policy> Master<P> {
         ensures after { (report : Report) → standing self.new (counted report result.lost) ≡ after P.Policy.goes 32 5040 (stands self.old watch) (next_call report) }
         ensures kept { result.lost ≡ watch.lost }
     {
-        let mut rows = self.rows;
-        let outcome = run_cycle(&mut rows, self.window, &self.policy);
-        self.rows = rows;
+        let outcome = run_cycle(&mut self.rows, self.window, &self.policy);
         watch.owe(outcome.schedule)
     }
 }

@@ -15,7 +15,7 @@ returns-then-self-other g c =
                 λ r.
                 elim (cases_lt r 32) [
                   | inl within ↦ c.same_messages.ensures.0 yes-then r within
-                  | inr past ↦ ap figures_of (get_or_past a.rows r None (omega (arith, a.long)) ∙ sym (get_or_past b.rows r None (omega (arith, b.long))))
+                  | inr past ↦ ap figures_of (get_or_past a.rows r None (omega arith) ∙ sym (get_or_past b.rows r None (omega arith)))
                 ];
           },
       λ alike. c.same_messages.ensures.1 (λ k within. alike.figures k),

@@ -1,13 +1,13 @@
-use Rattle.std.proofs.Common.{refl, arith, lit<}
+use Rattle.std.proofs.Common.{sym, subst, arith, lit<}
+use Rattle.engine.specs.Comparison.{Sound}
 use Rattle.rules.proofs.Relief.{promise}
 use Rattle.rules.proofs.Rounds.{rounds_known}
-use Rattle.ftt.specs.Tables.{all_sound}
+use Rattle.ftt.proofs.Soundness.{each_sound}
 use Rattle.ftt.proofs.Standing.{no_rows, same_state}
 use Rattle.ftt.proofs.master.Master.new.Goals as goal
 
 pub invariant_of-master : goal.invariant_of-master
-unfolding all_sound
-invariant_of-master g c = record { long = refl; sound = refl; «open» = omega arith }
+invariant_of-master g c = record { sound = each_sound _ (subst Sound (sym no_rows) (λ r. tt)); «open» = omega arith }
 
 pub returns : goal.returns
 returns g c =

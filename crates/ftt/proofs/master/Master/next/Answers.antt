@@ -1,4 +1,4 @@
-use Rattle.std.proofs.Common.{ap, ◌∙◌, arith}
+use Rattle.std.proofs.Common.{ap, ◌∙◌}
 use Rattle.rules.specs.Calls.{schedule, counted, step}
 use Rattle.ftt.proofs.Soundness.{cycled_sound}
 use Rattle.ftt.proofs.Standing.{same_state}
@@ -6,8 +6,7 @@ use Rattle.ftt.proofs.master.Master.next.Goals as goal
 
 pub invariant_of-self : goal.invariant_of-self
 invariant_of-self g c = record {
-  long = omega arith;
-  sound = cycled_sound _ c.args.self.now.rows _ c.run_cycle-outcome.ensures.after c.args.self.now.sound;
+  sound = cycled_sound _ c.args.self.now _ c.run_cycle-outcome.ensures.after;
   «open» = c.args.self.now.«open»;
 }
 

@@ -1,24 +1,13 @@
-use Rattle.std.proofs.Common.{◌≡◌, rules}
-use Rattle.rules.specs.Calls.{step, outcome}
-use Rattle.rules.specs.Calls.Call.{set_policy}
+use Rattle.std.proofs.Common.{rules}
+use Rattle.ftt.specs.declared.change.Change.TheVariants.{Policy}
 use Rattle.ftt.specs.Held.{stands}
-use Rattle.ftt.specs.Told.{refusal_of, refusal_to}
-use Rattle.ftt.proofs.Steps.{declined_keeps, made_changes, rehearsed_takes}
+use Rattle.ftt.proofs.Steps.{declined_follows, made_follows}
 use Rattle.ftt.proofs.master.Master.set_policy.Goals as goal
 
 pub returns-in_err-judge_policy : goal.returns-in_err-judge_policy
-unfolding step
 returns-in_err-judge_policy g c =
     let s = stands c.args.self.now c.args.watch.now in
-    let call = set_policy c.args.policy in
-    let is : refusal_of c.from_residual.result ≡ refusal_to g.P.Policy.goes 32 5040 s call = search rules in
-    let done = declined_keeps g.P.Policy.goes 32 5040 s call c.from_residual.result c.from_residual.ensures.0 is in
-    record { answer = done.0; after = done.1 }
+    declined_follows g.P.Policy.goes s (Policy c.args.policy) (λ _. s) c.from_residual.result c.from_residual.ensures.0 (search rules)
 
 pub returns : goal.returns
-unfolding step outcome
-returns g c =
-    let s = stands c.args.self.now c.args.watch.now in
-    let call = set_policy c.args.policy in
-    let done = made_changes g.P.Policy.goes 32 5040 s call _ (c.in_ok-judge_policy.ensures c.args.watch.now.lost) (rehearsed_takes g.P.Policy.goes 32 5040 _) in
-    record { answer = done.0; after = done.1 }
+returns g c = made_follows g.P.Policy.goes _ (Policy c.args.policy) _ (c.in_ok-judge_policy.ensures c.args.watch.now.lost)

@@ -8,13 +8,12 @@ use Rattle.engine.specs.Cycle.{Slots, Rules, cycle}
 use Rattle.engine.specs.Held.{slots}
 use Rattle.engine.specs.Comparison.{Sound, SoundSlot}
 use Rattle.engine.proofs.Lighter.{cycle_sound}
-use Rattle.engine.proofs.Tests.{first_none}
 use Rattle.rules.specs.Calls.{State, Call, Outcome, new_row, put, in_range, width_in_range, with_window, rehearsed, checks, outcome}
 use Rattle.rules.specs.Calls.Call.{add, alter, drop, set_window, set_policy, next}
-use Rattle.rules.proofs.Keeping.{checked, new_sound}
+use Rattle.rules.proofs.Keeping.{checked, first_none, new_sound}
 use Rattle.rules.proofs.Safe.{put_slots, rehearsed_takes, same_ok}
 use Rattle.ftt.specs.Held.{standing}
-use Rattle.ftt.specs.Told.{comes_to}
+use Rattle.ftt.specs.Judged.{comes_to}
 use Rattle.ftt.specs.declared.master.Master.{Master}
 
 -- every used row is sound, one by one

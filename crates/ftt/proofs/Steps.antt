@@ -12,7 +12,8 @@ use Rattle.rules.specs.Calls.{Call, State, Outcome, first_refusal, rules_of, jud
 use Rattle.ftt.specs.declared.change.Change.{Change}
 use Rattle.ftt.specs.declared.change.Change.TheVariants.{Add, Alter, Drop, Window, Policy}
 use Rattle.ftt.specs.Questions.{call_of}
-use Rattle.ftt.specs.Told.{told_outcome, told_answer, comes_to, Follows}
+use Rattle.ftt.specs.Judged.{told_outcome, comes_to}
+use Rattle.ftt.specs.Told.{told_answer, Follows}
 
 -- two checks that are passed
 pub past : {P : Type 0} {a b : Option Told} → None ≡ a → None ≡ b → (rest : List (Option Told)) (out : Outcome P)

@@ -4,7 +4,7 @@ use Rattle.bus.specs.declared.refusal.Refusal.{Refusal}
 use Rattle.bus.specs.Refusals.{Told, told}
 use Rattle.orders.specs.Laws.{Order}
 use Rattle.rules.specs.Calls as rules
-use Rattle.rules.specs.Calls.{Answer, Call, State, Outcome, checks, outcome}
+use Rattle.rules.specs.Calls.{Answer, Call, State}
 use Rattle.rules.specs.Calls.Answer.{made, declined}
 
 -- the refusal of an answer, if it is one
@@ -17,18 +17,7 @@ abbrev pub told_answer : {T : Type 0} → Result T Refusal → Answer
 told_answer (Ok x) = made
 told_answer (Err e) = declined (told e)
 
--- a result as the rules have it: the state that its value makes, or the refusal
-abbrev pub told_outcome : {P T : Type 0} → (T → State P) → Result T Refusal → Outcome P
-told_outcome makes (Ok x) = Ok (makes x)
-told_outcome makes (Err e) = Err (told e)
-
--- the rules of a master: 32 rows, and rounds of up to 5040 cycles
-module _ {P : Type 0} (goes : P → Order) where
-  -- what a call comes to: the first refusal of its checks, or its outcome
-  abbrev pub comes_to : State P → Call P → Outcome P
-  comes_to s call = elim (checks goes 32 5040 s call) [ Some told ↦ Err told | None ↦ outcome goes 32 5040 s call ]
-
-  -- a change is answered, and leaves the state, as the rules say
-  pub record Follows (old : State P) (call : Call P) (result : Result (Unit {0}) Refusal) (new : State P) : Type 0 where
-    pub answer : told_answer result ≡ rules.answer goes 32 5040 old call
-    pub after : new ≡ rules.after goes 32 5040 old call
+-- a change is answered, and leaves the state, as the rules of a master say: 32 rows, and rounds of up to 5040 cycles
+pub record Follows {P : Type 0} (goes : P → Order) (old : State P) (call : Call P) (result : Result (Unit {0}) Refusal) (new : State P) : Type 0 where
+  pub answer : told_answer result ≡ rules.answer goes 32 5040 old call
+  pub after : new ≡ rules.after goes 32 5040 old call

@@ -11,7 +11,8 @@ use Rattle.engine.specs.declared.row.Row.{Row}
 use Rattle.engine.specs.Rows.{sound}
 use Rattle.engine.specs.Comparison.{Sound, SoundSlot}
 use Rattle.engine.specs.Cycle.{Slots}
-use Rattle.engine.proofs.Tests.{first_none, some_is_none}
+pub use Rattle.engine.proofs.Tests.{first_none}
+use Rattle.engine.proofs.Tests.{some_is_none}
 use Rattle.engine.proofs.Rehearsed.{Within}
 use Rattle.rules.specs.Calls.{Call, State, Outcome, fresh, is_used, new_row, put, refused_if, in_range, settle, rules_of, rehearsed, with_slots, with_window, with_policy, checks, outcome, step, answer, after, run, history}
 use Rattle.rules.specs.Calls.Call.{add, alter, drop, set_window, set_policy, next}

@@ -4,7 +4,8 @@ ghost use Rattle.bus.specs.Refusals.{field_number, numbered, told};
 ghost use Rattle.engine.specs.Cycle.{used_and};
 ghost use Rattle.engine.specs.Held.{slots};
 ghost use Rattle.rules.specs.Calls.{is_used, refused_if, row_exists, in_range, width_in_range, within_window, all_within_window, new_row, put, rehearsed};
-ghost use Rattle.ftt.specs.Told.{refusal_of, told_outcome};
+ghost use Rattle.ftt.specs.Judged.{state_of, told_outcome};
+ghost use Rattle.ftt.specs.Told.{refusal_of};
 
 use bus::refusal::{Field, Refusal};
 use bus::rows::ROWS;
@@ -121,7 +122,7 @@ pub(crate) fn check_rehearsal<P: Policy>(
     window: u8,
     policy: &P,
 ) -> Result<(), Refusal>
-    ensures { (n : ℕ) → told_outcome (λ _. record { slots = slots rows.now; window = window; policy = policy.now; lost = n }) result ≡ rehearsed P.Policy.goes 32 5040 (record { slots = slots rows.now; window = window; policy = policy.now; lost = n }) }
+    ensures { (lost : ℕ) → told_outcome (λ _. state_of rows.now window policy.now lost) result ≡ rehearsed P.Policy.goes 32 5040 (state_of rows.now window policy.now lost) }
 {
     match rehearse(rows, window, policy).ok_or(Refusal::RoundTooLong)? {
         Verdict::Settled => Ok(()),

@@ -1,12 +1,11 @@
 // What a change would come to, with nothing changed: a change and its trial are judged alike.
 #![tactic(auto, unfolding(rules::specs::Calls::checks, rules::specs::Calls::outcome))]
 
-ghost use Rattle.std.specs.Prelude.{◌≡◌, ℕ, ◌<◌, [], ◌∷◌, Some, None, Err};
-ghost use Rattle.engine.specs.Held.{slots};
-ghost use Rattle.rules.specs.Calls.{first_refusal, in_range, within_window, new_row, put, with_slots, with_window, with_policy, rehearsed};
+ghost use Rattle.std.specs.Prelude.{◌≡◌, ℕ, ◌<◌};
+ghost use Rattle.rules.specs.Calls.{with_window, with_policy};
 ghost use Rattle.rules.specs.Calls.Call.{add, alter, drop, set_window, set_policy};
 ghost use Rattle.ftt.specs.Held.{standing};
-ghost use Rattle.ftt.specs.Told.{told_outcome, comes_to};
+ghost use Rattle.ftt.specs.Judged.{Judges, message_comes_to, told_outcome, with_rows};
 
 use crate::master::Master;
 use crate::master::checks::{
@@ -22,7 +21,7 @@ impl<P: Policy> Master<P> {
     // The rows with a new message on one of them, whatever it held.
     fn with_message(&self, row: u8, figures: Figures) -> Result<[Option<Row>; ROWS], Refusal>
         requires { row < 32 }
-        ensures { (n : ℕ) → told_outcome (λ rows. with_slots P.Policy.goes 32 5040 (standing self.now n) (slots rows)) result ≡ elim (first_refusal (in_range figures ∷ within_window self.now.window row figures ∷ [])) [ Some told ↦ Err told | None ↦ rehearsed P.Policy.goes 32 5040 (with_slots P.Policy.goes 32 5040 (standing self.now n) (put row (Some (new_row figures)) (slots self.now.rows))) ] }
+        ensures { (lost : ℕ) → told_outcome (λ rows. with_rows rows (standing self.now lost)) result ≡ message_comes_to P.Policy.goes (standing self.now lost) row figures }
     {
         check_figures(figures)?;
         check_duration(self.window, row, figures)?;
@@ -33,7 +32,7 @@ impl<P: Policy> Master<P> {
 
     // The rows with a message on a free row.
     pub(crate) fn added(&self, row: u8, figures: Figures) -> Result<[Option<Row>; ROWS], Refusal>
-        ensures { (n : ℕ) → told_outcome (λ rows. with_slots P.Policy.goes 32 5040 (standing self.now n) (slots rows)) result ≡ comes_to P.Policy.goes (standing self.now n) (add row figures) }
+        ensures { Judges P.Policy.goes self.now (add row figures) with_rows result }
     {
         check_free(slot(&self.rows, row)?)?;
         self.with_message(row, figures)
@@ -41,7 +40,7 @@ impl<P: Policy> Master<P> {
 
     // The rows with another message in the place of the row's.
     pub(crate) fn altered(&self, row: u8, figures: Figures) -> Result<[Option<Row>; ROWS], Refusal>
-        ensures { (n : ℕ) → told_outcome (λ rows. with_slots P.Policy.goes 32 5040 (standing self.now n) (slots rows)) result ≡ comes_to P.Policy.goes (standing self.now n) (alter row figures) }
+        ensures { Judges P.Policy.goes self.now (alter row figures) with_rows result }
     {
         check_used(slot(&self.rows, row)?)?;
         self.with_message(row, figures)
@@ -49,7 +48,7 @@ impl<P: Policy> Master<P> {
 
     // The rows without the row's message.
     pub(crate) fn dropped(&self, row: u8) -> Result<[Option<Row>; ROWS], Refusal>
-        ensures { (n : ℕ) → told_outcome (λ rows. with_slots P.Policy.goes 32 5040 (standing self.now n) (slots rows)) result ≡ comes_to P.Policy.goes (standing self.now n) (drop row) }
+        ensures { Judges P.Policy.goes self.now (drop row) with_rows result }
     {
         check_used(slot(&self.rows, row)?)?;
         Ok(with_row(&self.rows, row, None))
@@ -57,7 +56,7 @@ impl<P: Policy> Master<P> {
 
     // A narrower window has to pass the rows and the rehearsal.
     pub(crate) fn judge_window(&self, window: u8) -> Result<(), Refusal>
-        ensures { (n : ℕ) → told_outcome (λ _. with_window P.Policy.goes 32 5040 (standing self.now n) window) result ≡ comes_to P.Policy.goes (standing self.now n) (set_window window) }
+        ensures { Judges P.Policy.goes self.now (set_window window) (λ _ s. with_window P.Policy.goes 32 5040 s window) result }
     {
         check_width(window)?;
         if self.window <= window {
@@ -68,7 +67,7 @@ impl<P: Policy> Master<P> {
     }
 
     pub(crate) fn judge_policy(&self, policy: &P) -> Result<(), Refusal>
-        ensures { (n : ℕ) → told_outcome (λ _. with_policy P.Policy.goes 32 5040 (standing self.now n) policy.now) result ≡ comes_to P.Policy.goes (standing self.now n) (set_policy policy.now) }
+        ensures { Judges P.Policy.goes self.now (set_policy policy.now) (λ _ s. with_policy P.Policy.goes 32 5040 s policy.now) result }
     {
         check_rehearsal(&self.rows, self.window, policy)
     }

@@ -9,6 +9,7 @@ mod tests {
     use ftt::master::Master;
     use ftt::watch::IdleWatch;
     use orders::keyed::RateMonotonic;
+    use std::iter::repeat_n;
 
     // Some messages of one of the benchmark's types: their period and deadline in cycles.
     #[derive(Clone, Copy)]
@@ -70,9 +71,9 @@ mod tests {
             .iter()
             .flat_map(|group| repeat_n(message(*group), usize::from(group.messages)));
         let mut free = 0;
-        for (row, figures) in (0..ROWS as u8).zip(messages) {
+        for (row, figures) in (0..=u8::MAX).zip(messages) {
             master.add(watch, row, figures)?;
-            free = row + 1;
+            free = row.saturating_add(1);
         }
         Ok(free)
     }

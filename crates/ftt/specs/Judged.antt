@@ -32,7 +32,7 @@ module _ {P : Type 0} (goes : P → Order) where
   abbrev pub message_comes_to : State P → ℕ → Figures → Outcome P
   message_comes_to s r f =
       elim (first_refusal (in_range f ∷ within_window s.window r f ∷ [])) [
-        Some told ↦ Err told
+        | Some told ↦ Err told
         | None ↦ rehearsed goes 32 5040 (with_slots goes 32 5040 s (put r (Some (new_row f)) s.slots))
       ]
 

@@ -1,5 +1,7 @@
 // The changes of the table, the window and the policy. Each takes the idle watch, since no trigger may be owed
 // meanwhile, and is made whole or not at all.
+#![tactic(auto, unfolding(rules::specs::Calls::step))]
+
 ghost use Rattle.rules.specs.Calls.Call.{add as to_add, alter as to_alter, drop as to_drop, set_window, set_policy};
 ghost use Rattle.ftt.specs.Held.{stands};
 ghost use Rattle.ftt.specs.Told.{Follows};

@@ -104,6 +104,7 @@ fn is_above(slot: Option<Row>, window: u8) -> bool
 }
 
 // The lowest row whose duration is above the window is told.
+#[tactic(auto, using(engine::proofs::Tests::lowest_skip))]
 pub(crate) fn check_durations(rows: &[Option<Row>; ROWS], window: u8) -> Result<(), Refusal>
     ensures { refusal_of result ≡ all_within_window 32 window (slots rows.now) }
 {

@@ -21,6 +21,7 @@ const MOST_PLANNED: usize = 256;
 
 impl<P: Policy> Master<P> {
     // What a change would be answered.
+    #[tactic(auto, unfolding(rules::specs::Calls::step))]
     pub fn trial(&self, change: &Change<P>) -> Result<(), Refusal>
         ensures { (n : ℕ) → told_answer result ≡ answer P.Policy.goes 32 5040 (standing self.now n) (call_of change.now) }
     {

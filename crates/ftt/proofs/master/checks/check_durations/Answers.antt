@@ -3,15 +3,12 @@ use Rattle.std.specs.Option.{option_map}
 use Rattle.bus.specs.Refusals.{numbered}
 use Rattle.engine.specs.Cycle.{lowest, used_and}
 use Rattle.engine.specs.Held.{slots}
-use Rattle.engine.proofs.Tests.{lowest_skip, lowest_found}
+use Rattle.engine.proofs.Tests.{lowest_found}
 use Rattle.ftt.proofs.master.checks.check_durations.Goals as goal
 
 pub loop-row-init : goal.loop-row-init
 unfolding lowest
 loop-row-init c = refl
-
-pub loop-row-preserved : goal.loop-row-preserved
-loop-row-preserved c = lowest_skip c.loop-row.row _ c.loop-row.invariant (sym c.is_above.ensures ∙ c.if-is_above.false)
 
 pub returns-then-is_above : goal.returns-then-is_above
 returns-then-is_above c =

@@ -119,7 +119,7 @@ module _ {P : Type 0} (goes : P → Order) (rows limit : ℕ) where
   number_of (Err told) = told.number
 
   other_number : (s : State P) (o : Outcome P) → (number_of o ≡ 6 → ⊥) → (settle s o).answer ≢ declined (numbered 6 [])
-  other_number s (Ok s') h e = let z : ◌≡◌ {A = ℕ} 0 1 = cc in omega arith
+  other_number s (Ok s') h e = cc
   other_number s (Err told) h e = let same : told ≡ numbered 6 [] = cc in h (ap (λ t. t.number) same)
 
   -- a rehearsal of a table that has a round

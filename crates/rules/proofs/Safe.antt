@@ -81,7 +81,7 @@ module _ (goes : Order) (n window : ℕ) (t : Slots) where
 
 -- a refusal is no state
 pub err_is_ok : {S : Type 0} {e : Told} {s : S} → ◌≡◌ {A = Result S Told} (Err e) (Ok s) → ⊥
-err_is_ok h = let z : ◌≡◌ {A = ℕ} 0 1 = cc in omega arith
+err_is_ok h = cc
 
 pub same_ok : {S : Type 0} {s s' : S} → ◌≡◌ {A = Result S Told} (Ok s) (Ok s') → s ≡ s'
 same_ok h = cc

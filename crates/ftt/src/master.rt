@@ -1,5 +1,5 @@
 // The master: its table of messages, its window and its policy.
-ghost use Rattle.std.specs.Prelude.{◌≡◌, ℕ, ◌≤◌, true, length};
+ghost use Rattle.std.specs.Prelude.{◌≡◌, ℕ, ◌≤◌, true};
 ghost use Rattle.std.specs.Option.{ForSome};
 ghost use Rattle.engine.specs.Rows.{sound};
 ghost use Rattle.engine.specs.Held.{slots};

@@ -38,7 +38,8 @@ impl<P: Policy> Master<P> {
         self.with_message(row, figures)
     }
 
-    // The rows with another message in the place of the row's.
+    // The rows with another message in the place of the row's. Beside `added` for the check and the call that its clause
+    // names: a function over both would take them as parameters and be no shorter.
     pub(crate) fn altered(&self, row: u8, figures: Figures) -> Result<[Option<Row>; ROWS], Refusal>
         ensures { Judges P.Policy.goes self.now (alter row figures) with_rows result }
     {

@@ -67,9 +67,10 @@ mod tests {
         watch: &IdleWatch,
         groups: &[Group],
     ) -> Result<u8, Refusal> {
-        let messages = groups
-            .iter()
-            .flat_map(|group| repeat_n(message(*group), usize::from(group.messages)));
+        let messages = groups.iter().flat_map(|group| repeat_n(
+            message(*group),
+            usize::from(group.messages),
+        ));
         let mut free = 0;
         for (row, figures) in (0..=u8::MAX).zip(messages) {
             master.add(watch, row, figures)?;

@@ -1,3 +1,2 @@
 pub mod Soundness
-pub mod Standing
 pub mod Steps

@@ -1,85 +1,103 @@
--- Every change and every cycle keeps the rows sound. Assumes nothing.
-use Rattle.std.proofs.Common.{◌≡◌, ℕ, zero, suc, Bool, true, false, ◌||◌, eqb, ltb, List, [], ◌∷◌, set, Some, None, Option, sym, refl, subst, arith}
-use Rattle.std.proofs.lemmas.Bool.{and_parts, and_from}
-use Rattle.std.proofs.lemmas.Bool.Decides.{nat_tests}
-use Rattle.bus.specs.Refusals.{Told}
+-- Every change and every cycle keeps the rows sound and the window open. Assumes nothing.
+use Rattle.std.proofs.Common.{◌≡◌, ℕ, zero, suc, ◌≤◌, Bool, true, false, leb, List, replicate, Some, None, Ok, Option, sym, refl, subst, inl, inr, arith}
+use mathlib.Core.Path.{fun_ext}
+use Rattle.std.proofs.lemmas.Bool.{cases_lt}
+use Rattle.std.proofs.lemmas.List.{get_or_past, get_or-replicate, length-replicate}
 use Rattle.orders.specs.Laws.{Order}
 use Rattle.engine.specs.declared.row.Figures.{Figures}
 use Rattle.engine.specs.declared.row.Row.{Row}
 use Rattle.engine.specs.Rows.{sound}
-use Rattle.engine.specs.Cycle.{Rules, cycle, first_of}
-use Rattle.engine.specs.Comparison.{Sound, SoundSlot}
+use Rattle.engine.specs.Cycle.{Slots, Rules, cycle}
 use Rattle.engine.specs.Held.{slots}
+use Rattle.engine.specs.Comparison.{Sound, SoundSlot}
 use Rattle.engine.proofs.Lighter.{cycle_sound}
-use Rattle.rules.specs.Calls.{State, refused_if, row_exists, row_is_free, row_is_used, in_range, within_window, new_row, checks, outcome}
-use Rattle.rules.specs.Calls.Call.{add, alter}
-use Rattle.ftt.specs.Tables.{is_sound, all_sound}
-use Rattle.ftt.specs.Told.{refused_by, refusal_to}
+use Rattle.rules.specs.Calls.{State, Call, Outcome, new_row, put, in_range, width_in_range, with_window, rehearsed, checks, outcome}
+use Rattle.rules.specs.Calls.Call.{add, alter, drop, set_window, set_policy, next}
+use Rattle.rules.proofs.Keeping.{checked, first_none, new_sound}
+use Rattle.rules.proofs.Safe.{put_slots, rehearsed_takes, same_ok}
+use Rattle.ftt.specs.Held.{standing}
+use Rattle.ftt.specs.Judged.{comes_to}
+use Rattle.ftt.specs.declared.master.Master.{Master}
 
-slot_sound : (a : Option Row) → is_sound a ≡ true → SoundSlot a
-slot_sound None h = tt
-slot_sound (Some row) h = h
+-- every used row is sound, one by one
+abbrev pub EachSound : Slots → Type 0
+EachSound t = (r : ℕ) (row : Row) → t r ≡ Some row → sound row ≡ true
 
-slot_is_sound : (a : Option Row) → SoundSlot a → is_sound a ≡ true
-slot_is_sound None h = refl
-slot_is_sound (Some row) h = h
+each_sound : (t : Slots) → Sound t → EachSound t
+each_sound t fine r row is = subst SoundSlot is (fine r)
 
-pub sound_at : (rows : List (Option Row)) → all_sound rows ≡ true → Sound (slots rows)
-unfolding all_sound
-sound_at [] h r = tt
-sound_at (a ∷ rest) h zero = slot_sound a (and_parts (is_sound a) (all_sound rest) h).0
-sound_at (a ∷ rest) h (suc r) = sound_at rest (and_parts (is_sound a) (all_sound rest) h).1 r
-
-pub sound_from : (rows : List (Option Row)) → Sound (slots rows) → all_sound rows ≡ true
-unfolding all_sound
-sound_from [] h = refl
-sound_from (a ∷ rest) h = and_from (is_sound a) (all_sound rest) (slot_is_sound a (h 0)) (sound_from rest (λ r. h (suc r)))
-
-pub cycled_sound : (rules : Rules) (old new : List (Option Row)) → slots new ≡ cycle rules (slots old) → all_sound old ≡ true → all_sound new ≡ true
-cycled_sound rules old new is h = sound_from new (subst Sound (sym is) (cycle_sound rules (slots old) (sound_at old h)))
-
-pub set_sound : (rows : List (Option Row)) (r : ℕ) (a : Option Row) → is_sound a ≡ true → all_sound rows ≡ true → all_sound (set rows r a) ≡ true
-unfolding all_sound
-set_sound [] r a new h = refl
-set_sound (b ∷ rest) zero a new h = and_from (is_sound a) (all_sound rest) new (and_parts (is_sound b) (all_sound rest) h).1
-set_sound (b ∷ rest) (suc r) a new h =
-    and_from (is_sound b) (all_sound (set rest r a)) (and_parts (is_sound b) (all_sound rest) h).0 (set_sound rest r a new (and_parts (is_sound b) (all_sound rest) h).1)
-
-first_none : {X : Type 0} (a b : Option X) → None ≡ first_of a b → (None ≡ a) × (None ≡ b)
-first_none None b e = (refl, e)
-first_none {X} (Some x) b e = absurd (none_is_some e)
+sound_each : (t : Slots) → EachSound t → Sound t
+sound_each t each r = slot (t r) (each r)
   where
-    none_is_some : {y : X} → None ≡ Some y → ⊥
-    none_is_some h = let z : ◌≡◌ {A = ℕ} 0 1 = cc in omega arith
+    slot : (a : Option Row) → ((row : Row) → a ≡ Some row → sound row ≡ true) → SoundSlot a
+    slot None h = tt
+    slot (Some row) h = h row refl
 
-passes : (fails : Bool) (t : Told) → None ≡ refused_if fails t → fails ≡ false
-passes false t e = refl
-passes true t e = absurd (none_is_some e)
-  where
-    none_is_some : None ≡ Some t → ⊥
-    none_is_some h = let z : ◌≡◌ {A = ℕ} 0 1 = cc in omega arith
+-- the rows of a new master
+pub no_rows : slots (replicate 32 None) ≡ λ r. None
+no_rows =
+    fun_ext λ r.
+    elim (cases_lt r 32) [
+      | inl in_rows ↦ get_or-replicate 32 r None None in_rows
+      | inr past ↦ get_or_past (replicate {A = Option Row} 32 None) r None (omega (arith, length-replicate {A = Option Row} 32 None))
+    ]
 
-in_range_sound : (f : Figures) → None ≡ in_range f → sound (new_row f) ≡ true
-in_range_sound f e =
-    let d = first_none _ _ e in
-    let p = first_none _ _ d.1 in
-    let l = first_none _ _ p.1 in
-    by_tests (passes _ _ d.0) (passes _ _ p.0) (passes _ _ l.0)
-  where
-    by_tests : eqb f.duration 0 ≡ false → eqb f.period 0 ≡ false → (eqb f.deadline 0 || ltb f.period f.deadline) ≡ false → sound (new_row f) ≡ true
-    by_tests duration period deadline = grind (arith, nat_tests)
+pub none_sound : EachSound (slots (replicate 32 None))
+none_sound = each_sound _ (subst Sound (sym no_rows) (λ r. tt))
 
--- what is passed is passed by the third check
-third : (a b c rest out : Option Told) → None ≡ first_of (first_of a (first_of b (first_of c rest))) out → None ≡ c
-third a b c rest out e =
-    (first_none c rest (first_none b (first_of c rest) (first_none a (first_of b (first_of c rest)) (first_none (first_of a (first_of b (first_of c rest))) out e).0).1).1).0
+-- the rows after a cycle
+pub cycled_sound : {P : Type 0} (rules : Rules) (m : Master P) (new : List (Option Row)) → slots new ≡ cycle rules (slots m.rows) → EachSound (slots new)
+cycled_sound rules m new is = each_sound (slots new) (subst Sound (sym is) (cycle_sound rules (slots m.rows) (sound_each _ m.sound)))
 
-pub added_sound : {P : Type 0} (goes : P → Order) (rows limit : ℕ) (s : State P) (r : ℕ) (f : Figures) → None ≡ refusal_to goes rows limit s (add r f) → sound (new_row f) ≡ true
-unfolding checks
-added_sound goes rows limit s r f e =
-    in_range_sound f (third (row_exists rows r) (row_is_free s.slots r) (in_range f) (first_of (within_window s.window r f) None) (refused_by (outcome goes rows limit s (add r f))) e)
+-- what a master's state keeps
+record Fit {P : Type 0} (s : State P) : Type 0 where
+  sound : Sound s.slots
+  «open» : 1 ≤ s.window
 
-pub altered_sound : {P : Type 0} (goes : P → Order) (rows limit : ℕ) (s : State P) (r : ℕ) (f : Figures) → None ≡ refusal_to goes rows limit s (alter r f) → sound (new_row f) ≡ true
-unfolding checks
-altered_sound goes rows limit s r f e =
-    in_range_sound f (third (row_exists rows r) (row_is_used s.slots r) (in_range f) (first_of (within_window s.window r f) None) (refused_by (outcome goes rows limit s (alter r f))) e)
+width_above : (w : ℕ) → width_in_range w ≡ None → 1 ≤ w
+width_above zero e = absurd (cc)
+width_above (suc w) e = omega arith
+
+module _ {P : Type 0} (goes : P → Order) (s : State P) (fit : Fit s) where
+  -- the same window, and one row with another message
+  with_message : (r : ℕ) (f : Figures) (new : State P) → in_range f ≡ None → rehearsed goes 32 5040 (record { slots = put r (Some (new_row f)) s.slots; window = s.window; policy = s.policy; lost = s.lost }) ≡ Ok new → Fit new
+  with_message r f new fine e =
+      subst Fit (rehearsed_takes goes 32 5040 _ new e)
+      (record { sound = put_slots SoundSlot r (Some (new_row f)) s.slots (new_sound f fine) fit.sound; «open» = fit.«open» })
+
+  with_width : (w : ℕ) (new : State P) → 1 ≤ w → (wider : Bool) → elim wider as (λ _. Outcome P) [ true ↦ Ok (with_window goes 32 5040 s w) | false ↦ rehearsed goes 32 5040 (with_window goes 32 5040 s w) ] ≡ Ok new → Fit new
+  with_width w new above wider e = subst Fit (same wider e) (record { sound = fit.sound; «open» = above })
+    where
+      same : (wider : Bool) → elim wider as (λ _. Outcome P) [ true ↦ Ok (with_window goes 32 5040 s w) | false ↦ rehearsed goes 32 5040 (with_window goes 32 5040 s w) ] ≡ Ok new → with_window goes 32 5040 s w ≡ new
+      same true e = same_ok e
+      same false e = rehearsed_takes goes 32 5040 _ new e
+
+  made_fit : (call : Call P) (new : State P) → Ok new ≡ comes_to goes s call → Fit new
+  unfolding checks outcome
+  made_fit (add r f) new is =
+      let made = checked (checks goes 32 5040 s (add r f)) _ new (sym is) in
+      let past = first_none _ _ (first_none _ _ made.0).1 in
+      with_message r f new (first_none _ _ past.1).0 made.1
+  made_fit (alter r f) new is =
+      let made = checked (checks goes 32 5040 s (alter r f)) _ new (sym is) in
+      let past = first_none _ _ (first_none _ _ made.0).1 in
+      with_message r f new (first_none _ _ past.1).0 made.1
+  made_fit (drop r) new is =
+      let made = checked (checks goes 32 5040 s (drop r)) _ new (sym is) in
+      subst Fit (same_ok made.1) (record { sound = put_slots SoundSlot r None s.slots tt fit.sound; «open» = fit.«open» })
+  made_fit (set_window w) new is =
+      let made = checked (checks goes 32 5040 s (set_window w)) _ new (sym is) in
+      with_width w new (width_above w (first_none _ _ made.0).0) (leb s.window w) made.1
+  made_fit (set_policy p) new is = subst Fit (rehearsed_takes goes 32 5040 _ new (sym is)) (record { sound = fit.sound; «open» = fit.«open» })
+  made_fit (next report) new is =
+      subst Fit (same_ok (sym is)) (record { sound = cycle_sound _ s.slots fit.sound; «open» = fit.«open» })
+
+-- what a master keeps, after a change
+pub record Kept {P : Type 0} (s : State P) : Type 0 where
+  pub sound : EachSound s.slots
+  pub «open» : 1 ≤ s.window
+
+pub kept : {P : Type 0} (goes : P → Order) (m : Master P) (call : Call P) (new : State P) → Ok new ≡ comes_to goes (standing m 0) call → Kept new
+kept goes m call new is =
+    let fit = made_fit goes (standing m 0) (record { sound = sound_each _ m.sound; «open» = m.«open» }) call new is in
+    record { sound = each_sound _ fit.sound; «open» = fit.«open» }

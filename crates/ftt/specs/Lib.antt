@@ -1,4 +1,4 @@
 pub mod Held
+pub mod Judged
 pub mod Questions
-pub mod Tables
 pub mod Told

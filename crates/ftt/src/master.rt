@@ -1,6 +1,8 @@
 // The master: its table of messages, its window and its policy.
-ghost use Rattle.std.specs.Prelude.{◌≡◌, ◌≤◌, true, length};
-ghost use Rattle.ftt.specs.Tables.{all_sound};
+ghost use Rattle.std.specs.Prelude.{◌≡◌, ℕ, ◌≤◌, true};
+ghost use Rattle.std.specs.Option.{ForSome};
+ghost use Rattle.engine.specs.Rows.{sound};
+ghost use Rattle.engine.specs.Held.{slots};
 
 use bus::rows::ROWS;
 use engine::row::Row;
@@ -17,7 +19,6 @@ pub struct Master<P> {
     // units of a cycle that are for the scheduled messages
     window: u8,
     policy: P,
-    ghost long: { length rows ≡ 32 },
-    ghost sound: { all_sound rows ≡ true },
+    ghost sound: { (r : ℕ) → ForSome (slots rows r) (λ row. sound row ≡ true) },
     ghost open: { 1 ≤ window },
 }

@@ -54,6 +54,7 @@ impl OwedTrigger {
     pub fn sent(self) -> IdleWatch
         ensures { result.lost ≡ counted is_sent self.lost }
     {
+        // Each field by name: a pattern with `..` would not spend the token.
         let OwedTrigger {
             schedule: _,
             lost: _,

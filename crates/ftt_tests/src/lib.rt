@@ -39,9 +39,9 @@ mod tests {
     // Runs cycles whose triggers are all sent, and keeps their words.
     fn run(master: &mut Master<Selector>, idle: IdleWatch, words: &mut [u32; CYCLES]) -> IdleWatch {
         let mut watch = idle;
-        for i in 0..CYCLES {
+        for word in words.iter_mut() {
             let owed = master.next(watch);
-            words[i] = owed.schedule().word;
+            *word = owed.schedule().word;
             watch = owed.sent();
         }
         watch

@@ -3,6 +3,7 @@ use bus::refusal::{Field, Refusal};
 use engine::row::Figures;
 use ftt::change::Change;
 use ftt::master::Master;
+use ftt::watch::IdleWatch;
 use orders::selector::Selector;
 
 fn figures(duration: u8, period: u8, deadline: u8) -> Figures {
@@ -20,8 +21,7 @@ fn answer(change: Change<Selector>) -> Result<(), Refusal> {
     let (mut master, watch) = Master::new(Selector::RateMonotonic);
     let _ = master.set_window(&watch, 20);
     let _ = master.add(&watch, 31, figures(10, 2, 2));
-    let answer = master.trial(&change);
-    answer
+    master.trial(&change)
 }
 
 fn add(row: u8, figures: Figures) -> Result<(), Refusal> {
@@ -138,14 +138,20 @@ fn staggered(phase: u8) -> Figures {
     }
 }
 
+// Sixteen messages that take a cycle each.
+fn fill(master: &mut Master<Selector>, watch: &IdleWatch) -> Result<(), Refusal> {
+    master.set_window(watch, 10)?;
+    for row in 0..16 {
+        master.add(watch, row, staggered(row))?;
+    }
+    Ok(())
+}
+
 #[test]
 fn a_full_bus_does_not_settle(rt: HostRuntime) {
     let (mut master, watch) = Master::new(Selector::EarliestDeadline);
-    let mut made = master.set_window(&watch, 10).is_ok();
-    for row in 0..16 {
-        made &= master.add(&watch, row, staggered(row)).is_ok();
-    }
+    let filled = fill(&mut master, &watch);
     let one_more = master.add(&watch, 16, staggered(0));
-    assert!(rt; made);
+    assert_eq!(rt; filled, Ok(()));
     assert_eq!(rt; one_more, Err(Refusal::Unsettled));
 }

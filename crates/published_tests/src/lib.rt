@@ -9,6 +9,7 @@ mod tests {
     use ftt::master::Master;
     use ftt::watch::IdleWatch;
     use orders::keyed::RateMonotonic;
+    use std::iter::repeat_n;
 
     // Some messages of one of the benchmark's types: their period and deadline in cycles.
     #[derive(Clone, Copy)]
@@ -66,14 +67,16 @@ mod tests {
         watch: &IdleWatch,
         groups: &[Group],
     ) -> Result<u8, Refusal> {
-        let mut row: u8 = 0;
-        for group in groups {
-            for _ in 0..group.messages {
-                master.add(watch, row, message(*group))?;
-                row = row.saturating_add(1);
-            }
+        let messages = groups.iter().flat_map(|group| repeat_n(
+            message(*group),
+            usize::from(group.messages),
+        ));
+        let mut free = 0;
+        for (row, figures) in (0..=u8::MAX).zip(messages) {
+            master.add(watch, row, figures)?;
+            free = row.saturating_add(1);
         }
-        Ok(row)
+        Ok(free)
     }
 
     // The answer to one more of the slowest messages in a window of so many units.
@@ -103,18 +106,23 @@ mod tests {
         );
     }
 
-    // The first of so many cycles that schedules a row; 0 if none does.
-    fn first_cycle(master: &mut Master<RateMonotonic>, idle: IdleWatch, row: u8, most: u8) -> u8 {
+    // The first of so many cycles that schedules a row.
+    fn first_cycle(
+        master: &mut Master<RateMonotonic>,
+        idle: IdleWatch,
+        row: u8,
+        most: u8,
+    ) -> Option<u8> {
         let mut watch = idle;
-        let mut first = 0;
         for cycle in 1..=most {
             let owed = master.next(watch);
-            if first == 0 && owed.schedule().contains(row) {
-                first = cycle;
-            }
+            let schedule = owed.schedule();
             watch = owed.sent();
+            if schedule.contains(row) {
+                return Some(cycle);
+            }
         }
-        first
+        None
     }
 
     #[test]
@@ -128,7 +136,7 @@ mod tests {
         assert_eq!(rt; window, Ok(()));
         assert_eq!(rt; row, Ok(30));
         assert_eq!(rt; added, Ok(()));
-        assert_eq!(rt; first, 15);
+        assert_eq!(rt; first, Some(15));
     }
 
     // Thirty-two messages of 6 units in every cycle.
@@ -151,15 +159,13 @@ mod tests {
         let (mut master, idle) = Master::new(RateMonotonic);
         let filled = fill_all(&mut master, &idle);
         let mut watch = idle;
-        let mut others = 0;
+        let mut all_go = true;
         for _ in 0..100 {
             let owed = master.next(watch);
-            if owed.schedule().word != u32::MAX {
-                others = 1;
-            }
+            all_go &= owed.schedule().word == u32::MAX;
             watch = owed.sent();
         }
         assert_eq!(rt; filled, Ok(()));
-        assert_eq!(rt; others, 0);
+        assert!(rt; all_go);
     }
 }

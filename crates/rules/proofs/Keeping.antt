@@ -11,7 +11,8 @@ use Rattle.engine.specs.declared.row.Row.{Row}
 use Rattle.engine.specs.Rows.{sound}
 use Rattle.engine.specs.Comparison.{Sound, SoundSlot}
 use Rattle.engine.specs.Cycle.{Slots}
-use Rattle.engine.proofs.Tests.{first_none, some_is_none}
+pub use Rattle.engine.proofs.Tests.{first_none}
+use Rattle.engine.proofs.Tests.{some_is_none}
 use Rattle.engine.proofs.Rehearsed.{Within}
 use Rattle.rules.specs.Calls.{Call, State, Outcome, fresh, is_used, new_row, put, refused_if, in_range, settle, rules_of, rehearsed, with_slots, with_window, with_policy, checks, outcome, step, answer, after, run, history}
 use Rattle.rules.specs.Calls.Call.{add, alter, drop, set_window, set_policy, next}
@@ -23,7 +24,7 @@ use Rattle.rules.proofs.Turn.{turn_tie}
 
 -- CHECKS that are passed
 
-passed : (b : Bool) (told : Told) → refused_if b told ≡ None → b ≡ false
+pub passed : (b : Bool) (told : Told) → refused_if b told ≡ None → b ≡ false
 passed true told e = absurd (some_is_none e)
 passed false told e = refl
 
@@ -32,7 +33,7 @@ empty_when_unused None e = refl
 empty_when_unused (Some x) e = absurd (true≢false e)
 
 -- a new row whose figures are in range is sound
-new_sound : (f : Figures) → in_range f ≡ None → sound (new_row f) ≡ true
+pub new_sound : (f : Figures) → in_range f ≡ None → sound (new_row f) ≡ true
 new_sound f e =
     let a = first_none (refused_if (eqb f.duration 0) (numbered 4 (1 ∷ []))) _ e in
     let b = first_none (refused_if (eqb f.period 0) (numbered 4 (2 ∷ []))) _ a.1 in

@@ -1,17 +1,9 @@
 -- How many instances a message has released, by the wait for the next one. Assumes nothing.
 use Rattle.std.proofs.Common.{◌≡◌, ℕ, zero, suc, ◌+◌, ◌-◌, ◌*◌, ◌/◌, ◌<◌, ◌≤◌, leb, sym, ap, ◌∙◌, ⊎_elim, suc-mul, le-div_iff_mul-le, zero-mul, arith}
-use native.Mathlib.Nat.{mul-add-div_right, div-eq_of_lt}
+use Rattle.std.proofs.lemmas.Nat.{div-mul-add}
 use Rattle.std.proofs.lemmas.Bool.{cases_lt, cond-true, cond-false, le-leb, lt-leb}
 use Rattle.engine.specs.declared.row.Figures.{Figures}
 use Rattle.rules.specs.Ledger.{releases, ReleasedThere}
-
--- whole periods and less than one more
-whole : (p q r : ℕ) → r < p → (q * p + r) / p ≡ q
-whole p q r low =
-    let pos : 0 < p = omega arith in
-    let rest : r / p ≡ 0 = div-eq_of_lt {n = r} {m = p} low in
-    let split : (q * p + r) / p ≡ q + r / p = mul-add-div_right {m = p} pos q r in
-    omega arith
 
 -- the instance after the k-th is released when n cycles and the wait are over
 pub releases_by_wait : (f : Figures) (n w k : ℕ) → n + w ≡ f.phase + k * f.period → (1 ≤ k → w < f.period) → releases f n ≡ k
@@ -23,7 +15,7 @@ releases_by_wait f n w (suc k) place turned =
     let low : w < p = turned (omega arith) in
     let more : suc k * p ≡ k * p + p = suc-mul k p in
     let past : n - f.phase - 1 ≡ k * p + (p - 1 - w) = omega arith in
-    let turns : (n - f.phase - 1) / p ≡ k = ap (λ x. x / p) past ∙ whole p k (p - 1 - w) (omega arith) in
+    let turns : (n - f.phase - 1) / p ≡ k = ap (λ x. x / p) past ∙ div-mul-add k p (p - 1 - w) (omega arith) in
     cond-false (leb n f.phase) 0 (1 + (n - f.phase - 1) / p) (lt-leb n f.phase (omega arith)) ∙ omega arith
 
 -- a period less

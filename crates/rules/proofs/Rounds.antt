@@ -19,7 +19,7 @@ use Rattle.rules.specs.Calls.Call.{add, alter, drop, set_window, set_policy, nex
 use Rattle.rules.specs.Calls.Answer.{declined}
 use Rattle.rules.specs.Promise.{RoundsKnown}
 use Rattle.rules.proofs.Keeping.{checked}
-use Rattle.rules.proofs.Safe.{err_is_ok, same_ok}
+use Rattle.rules.proofs.Safe.{err_is_ok, rehearsed_takes, same_ok}
 use Rattle.rules.proofs.Sums.{every_from}
 
 -- ROUNDS of tables
@@ -71,16 +71,11 @@ module _ {P : Type 0} (goes : P → Order) (rows limit : ℕ) where
 
   rehearsed_known : (s s' : State P) → rehearsed goes rows limit s ≡ Ok s' → Known s'
   unfolding rehearsed
-  rehearsed_known s s' h = go (round limit rows s.slots) refl h
+  rehearsed_known s s' h = subst Known (rehearsed_takes goes rows limit s s' h) (by_round (round limit rows s.slots) h)
     where
-      by_verdict : (v : Verdict) → judged goes rows limit s v ≡ Ok s' → s ≡ s'
-      by_verdict Settled h = same_ok h
-      by_verdict (Late r c) h = absurd (err_is_ok h)
-      by_verdict Unsettled h = absurd (err_is_ok h)
-
-      go : (o : Option ℕ) → round limit rows s.slots ≡ o → elim o as (λ _. Outcome P) [ None ↦ Err (numbered 6 []) | Some m ↦ judged goes rows limit s (verdict (rules_of goes rows limit s) m s.slots) ] ≡ Ok s' → Known s'
-      go None is h = absurd (err_is_ok h)
-      go (Some m) is h = subst Known (by_verdict (verdict (rules_of goes rows limit s) m s.slots) h) (ap is_some is)
+      by_round : (o : Option ℕ) → elim o as (λ _. Outcome P) [ None ↦ Err (numbered 6 []) | Some m ↦ judged goes rows limit s (verdict (rules_of goes rows limit s) m s.slots) ] ≡ Ok s' → is_some o ≡ true
+      by_round None h = absurd (err_is_ok h)
+      by_round (Some m) h = refl
 
   module _ (s : State P) (known : Known s) where
     made_known : (call : Call P) (s' : State P) → outcome goes rows limit s call ≡ Ok s' → Known s'
@@ -124,7 +119,7 @@ module _ {P : Type 0} (goes : P → Order) (rows limit : ℕ) where
   number_of (Err told) = told.number
 
   other_number : (s : State P) (o : Outcome P) → (number_of o ≡ 6 → ⊥) → (settle s o).answer ≢ declined (numbered 6 [])
-  other_number s (Ok s') h e = let z : ◌≡◌ {A = ℕ} 0 1 = cc in omega arith
+  other_number s (Ok s') h e = cc
   other_number s (Err told) h e = let same : told ≡ numbered 6 [] = cc in h (ap (λ t. t.number) same)
 
   -- a rehearsal of a table that has a round

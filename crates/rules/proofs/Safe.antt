@@ -81,10 +81,25 @@ module _ (goes : Order) (n window : ℕ) (t : Slots) where
 
 -- a refusal is no state
 pub err_is_ok : {S : Type 0} {e : Told} {s : S} → ◌≡◌ {A = Result S Told} (Err e) (Ok s) → ⊥
-err_is_ok h = let z : ◌≡◌ {A = ℕ} 0 1 = cc in omega arith
+err_is_ok h = cc
 
 pub same_ok : {S : Type 0} {s s' : S} → ◌≡◌ {A = Result S Told} (Ok s) (Ok s') → s ≡ s'
 same_ok h = cc
+
+-- a rehearsal takes the state as it is, or none
+module _ {P : Type 0} (goes : P → Order) (rows limit : ℕ) (s s' : State P) where
+  judged_takes : (v : Verdict) → judged goes rows limit s v ≡ Ok s' → s ≡ s'
+  judged_takes Settled h = same_ok h
+  judged_takes (Late r c) h = absurd (err_is_ok h)
+  judged_takes Unsettled h = absurd (err_is_ok h)
+
+  pub rehearsed_takes : rehearsed goes rows limit s ≡ Ok s' → s ≡ s'
+  unfolding rehearsed
+  rehearsed_takes = by_round (round limit rows s.slots)
+    where
+      by_round : (o : Option ℕ) → elim o as (λ _. Outcome P) [ None ↦ Err (numbered 6 []) | Some m ↦ judged goes rows limit s (verdict (rules_of goes rows limit s) m s.slots) ] ≡ Ok s' → s ≡ s'
+      by_round None h = absurd (err_is_ok h)
+      by_round (Some m) h = judged_takes (verdict (rules_of goes rows limit s) m s.slots) h
 
 -- a rehearsal that settles makes the table safe
 module _ {P : Type 0} (goes : P → Order) (rows limit : ℕ) (s s' : State P) (within : Within rows s.slots) (fine : Sound s.slots) where

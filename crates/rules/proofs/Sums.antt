@@ -1,6 +1,7 @@
 -- Sums over lists that are changed element by element. Assumes nothing.
 use Rattle.std.proofs.Common.{◌≡◌, ℕ, zero, suc, ◌+◌, ◌*◌, ◌<◌, Bool, true, false, cond, List, [], ◌∷◌, map, sum_by, count_by, sym, refl, ap, ◌∙◌, ap₂, suc-mul, zero-mul, arith}
 use Rattle.std.specs.List.{AllByRecursion}
+use Rattle.std.proofs.lemmas.List.Folds.{fold-map, fold_stays}
 use Rattle.std.proofs.lemmas.List.Sums.{sum_by-cons}
 use Rattle.engine.specs.Rehearsal.{every}
 use Rattle.std.proofs.lemmas.Bool.{and_from}
@@ -11,12 +12,10 @@ module _ {X : Type 0} where
   sum_like f g (x ∷ xs) h = sum_by-cons f x xs ∙ ap₂ ◌+◌ h.0 (sum_like f g xs h.1) ∙ sym (sum_by-cons g x xs)
 
   pub sum_map : (f : X → ℕ) (h : X → X) (xs : List X) → sum_by f (map h xs) ≡ sum_by (λ x. f (h x)) xs
-  sum_map f h [] = refl
-  sum_map f h (x ∷ xs) = sum_by-cons f (h x) (map h xs) ∙ ap (λ n. f (h x) + n) (sum_map f h xs) ∙ sym (sum_by-cons (λ y. f (h y)) x xs)
+  sum_map f h xs = fold-map (λ a x. a + f x) h 0 xs
 
   pub sum_zero : (xs : List X) → sum_by (λ x. 0) xs ≡ 0
-  sum_zero [] = refl
-  sum_zero (x ∷ xs) = sum_by-cons (λ y. 0) x xs ∙ omega (arith, sum_zero xs)
+  sum_zero xs = fold_stays (λ a x. a + 0) 0 (λ x. refl) xs
 
   pub sum_plus : (f g : X → ℕ) (xs : List X) → sum_by (λ x. f x + g x) xs ≡ sum_by f xs + sum_by g xs
   sum_plus f g [] = refl

@@ -1,10 +1,11 @@
 // The checks that a change has to pass.
-ghost use Rattle.std.specs.Prelude.{◌≡◌, ℕ, ◌<◌, not, [], Some, nat_lt};
-ghost use Rattle.bus.specs.Refusals.{numbered};
+ghost use Rattle.std.specs.Prelude.{◌≡◌, ℕ, ◌<◌, not, [], ◌∷◌, Some, nat_lt, IfOk};
+ghost use Rattle.bus.specs.Refusals.{field_number, numbered, told};
 ghost use Rattle.engine.specs.Cycle.{used_and};
 ghost use Rattle.engine.specs.Held.{slots};
 ghost use Rattle.rules.specs.Calls.{is_used, refused_if, row_exists, in_range, width_in_range, within_window, all_within_window, new_row, put, rehearsed};
-ghost use Rattle.ftt.specs.Told.{refusal_of, refusal_by, refused_by};
+ghost use Rattle.ftt.specs.Judged.{state_of, told_outcome};
+ghost use Rattle.ftt.specs.Told.{refusal_of};
 
 use bus::refusal::{Field, Refusal};
 use bus::rows::ROWS;
@@ -13,24 +14,27 @@ use engine::row::{Figures, Row};
 use engine::verdict::Verdict;
 use orders::policy::Policy;
 
-// What a row holds; a row past the last holds nothing.
-pub(crate) fn slot(rows: &[Option<Row>; ROWS], row: u8) -> Option<Row>
-    ensures { result ≡ slots rows.now row }
+// What a row of the table holds.
+pub(crate) fn slot(rows: &[Option<Row>; ROWS], row: u8) -> Result<Option<Row>, Refusal>
+    ensures exists { refusal_of result ≡ row_exists 32 row }
+    ensures held { IfOk result (λ held. held ≡ slots rows.now row) }
 {
-    if usize::from(row) < ROWS {
-        rows[usize::from(row)]
-    } else {
-        None
-    }
+    rows.get(usize::from(row))
+        .copied()
+        .ok_or(Refusal::RowAbove31)
 }
 
 // A copy of the table with one row changed.
-pub(crate) fn with_row(rows: &[Option<Row>; ROWS], row: u8, used: Row) -> [Option<Row>; ROWS]
+pub(crate) fn with_row(
+    rows: &[Option<Row>; ROWS],
+    row: u8,
+    slot: Option<Row>,
+) -> [Option<Row>; ROWS]
     requires { row < 32 }
-    ensures { slots result ≡ put row (Some used) (slots rows.now) }
+    ensures { slots result ≡ put row slot (slots rows.now) }
 {
     let mut changed = *rows;
-    changed[usize::from(row)] = Some(used);
+    changed[usize::from(row)] = slot;
     changed
 }
 
@@ -45,118 +49,85 @@ pub(crate) fn new_row(figures: Figures) -> Row
     }
 }
 
-pub(crate) fn check_exists(row: u8) -> Result<(), Refusal>
-    ensures { refusal_of result ≡ row_exists 32 row }
+fn refuse_if(fails: bool, refusal: Refusal) -> Result<(), Refusal>
+    ensures { refusal_of result ≡ refused_if fails (told refusal) }
 {
-    if usize::from(row) < ROWS {
-        Ok(())
-    } else {
-        Err(Refusal::RowAbove31)
-    }
+    if fails { Err(refusal) } else { Ok(()) }
 }
 
 pub(crate) fn check_free(slot: Option<Row>) -> Result<(), Refusal>
     ensures { refusal_of result ≡ refused_if (is_used slot) (numbered 2 []) }
 {
-    match slot {
-        Some(_) => Err(Refusal::RowUsed),
-        None => Ok(()),
-    }
+    refuse_if(slot.is_some(), Refusal::RowUsed)
 }
 
 pub(crate) fn check_used(slot: Option<Row>) -> Result<(), Refusal>
     ensures { refusal_of result ≡ refused_if (not (is_used slot)) (numbered 3 []) }
 {
-    match slot {
-        Some(_) => Ok(()),
-        None => Err(Refusal::RowEmpty),
-    }
+    refuse_if(slot.is_none(), Refusal::RowEmpty)
+}
+
+fn check_range(fails: bool, field: Field) -> Result<(), Refusal>
+    ensures { refusal_of result ≡ refused_if fails (numbered 4 (field_number field ∷ [])) }
+{
+    refuse_if(fails, Refusal::OutOfRange { field })
 }
 
 // The first figure that is out of range is told.
 pub(crate) fn check_figures(figures: Figures) -> Result<(), Refusal>
     ensures { refusal_of result ≡ in_range figures }
 {
-    if figures.duration == 0 {
-        Err(Refusal::OutOfRange {
-            field: Field::Duration,
-        })
-    } else if figures.period == 0 {
-        Err(Refusal::OutOfRange {
-            field: Field::Period,
-        })
-    } else if figures.deadline == 0 || figures.period < figures.deadline {
-        Err(Refusal::OutOfRange {
-            field: Field::Deadline,
-        })
-    } else {
-        Ok(())
-    }
+    check_range(figures.duration == 0, Field::Duration)?;
+    check_range(figures.period == 0, Field::Period)?;
+    check_range(
+        figures.deadline == 0 || figures.period < figures.deadline,
+        Field::Deadline,
+    )
 }
 
 pub(crate) fn check_width(window: u8) -> Result<(), Refusal>
     ensures { refusal_of result ≡ width_in_range window }
 {
-    if window == 0 {
-        Err(Refusal::OutOfRange {
-            field: Field::Window,
-        })
-    } else {
-        Ok(())
-    }
+    check_range(window == 0, Field::Window)
 }
 
 pub(crate) fn check_duration(window: u8, row: u8, figures: Figures) -> Result<(), Refusal>
     ensures { refusal_of result ≡ within_window window row figures }
 {
-    if window < figures.duration {
-        Err(Refusal::AboveWindow { row })
-    } else {
-        Ok(())
-    }
+    refuse_if(window < figures.duration, Refusal::AboveWindow { row })
 }
 
 fn is_above(slot: Option<Row>, window: u8) -> bool
     ensures { result ≡ used_and (λ row. nat_lt window row.figures.duration) slot }
 {
-    match slot {
-        Some(row) => window < row.figures.duration,
-        None => false,
-    }
+    slot.is_some_and(|row| window < row.figures.duration)
 }
 
 // The lowest row whose duration is above the window is told.
+#[tactic(auto, using(engine::proofs::Tests::lowest_skip))]
 pub(crate) fn check_durations(rows: &[Option<Row>; ROWS], window: u8) -> Result<(), Refusal>
     ensures { refusal_of result ≡ all_within_window 32 window (slots rows.now) }
 {
-    for r in 0..ROWS {
-        if is_above(rows[r], window) {
-            return Err(Refusal::AboveWindow { row: r as u8 });
+    for (row, slot) in rows.iter().enumerate() {
+        if is_above(*slot, window) {
+            return Err(Refusal::AboveWindow { row: row as u8 });
         }
     }
     Ok(())
 }
 
-fn accept(verdict: Verdict) -> Result<(), Refusal>
-    ensures { refusal_of result ≡ refusal_by (Some verdict) }
-{
-    match verdict {
-        Verdict::Settled => Ok(()),
-        Verdict::Late { row, cycle } => Err(Refusal::Late { row, cycle }),
-        Verdict::Unsettled => Err(Refusal::Unsettled),
-    }
-}
-
 // The rehearsal of a changed table.
+#[tactic(auto, using(crate::proofs::Steps::rehearsed_by))]
 pub(crate) fn check_rehearsal<P: Policy>(
     rows: &[Option<Row>; ROWS],
     window: u8,
     policy: &P,
 ) -> Result<(), Refusal>
-    ensures { (n : ℕ) → refusal_of result ≡ refused_by (rehearsed P.Policy.goes 32 5040 (record { slots = slots rows.now; window = window; policy = policy.now; lost = n })) }
+    ensures { (lost : ℕ) → told_outcome (λ _. state_of rows.now window policy.now lost) result ≡ rehearsed P.Policy.goes 32 5040 (state_of rows.now window policy.now lost) }
 {
-    match rehearse(rows, window, policy) {
-        Some(verdict) => accept(verdict),
-        None => Err(Refusal::RoundTooLong),
+    match rehearse(rows, window, policy).ok_or(Refusal::RoundTooLong)? {
+        Verdict::Settled => Ok(()),
+        Verdict::Late { row, cycle } => Err(Refusal::Late { row, cycle }),
+        Verdict::Unsettled => Err(Refusal::Unsettled),
     }
 }

@@ -17,6 +17,7 @@ const WIDEST_WINDOW: u8 = 255;
 
 impl<P: Policy> Master<P> {
     // A master with no message, and its idle watch. What it promises holds of every list of calls that can follow.
+    #[tactic(auto, using(crate::proofs::Soundness::no_rows, rules::proofs::Relief::promise, rules::proofs::Rounds::rounds_known))]
     pub fn new(policy: P) -> (Master<P>, IdleWatch)
         ensures made { stands result.0 result.1 ≡ fresh policy }
         ensures promise { Promise P.Policy.goes 32 5040 }
@@ -31,14 +32,13 @@ impl<P: Policy> Master<P> {
     }
 
     // Runs the next elementary cycle, whose trigger is then owed.
+    #[tactic(auto, using(crate::proofs::Soundness::cycled_sound), unfolding(rules::specs::Calls::step))]
     pub fn next(&mut self, watch: IdleWatch) -> OwedTrigger
         ensures answer { (report : Report) → scheduled result.schedule.word ≡ answer P.Policy.goes 32 5040 (stands self.old watch) (next_call report) }
         ensures after { (report : Report) → standing self.new (counted report result.lost) ≡ after P.Policy.goes 32 5040 (stands self.old watch) (next_call report) }
         ensures kept { result.lost ≡ watch.lost }
     {
-        let mut rows = self.rows;
-        let outcome = run_cycle(&mut rows, self.window, &self.policy);
-        self.rows = rows;
+        let outcome = run_cycle(&mut self.rows, self.window, &self.policy);
         watch.owe(outcome.schedule)
     }
 }

@@ -1,62 +1,63 @@
 // What a change would come to, with nothing changed: a change and its trial are judged alike.
-ghost use Rattle.std.specs.Prelude.{◌≡◌, ℕ, ◌<◌, ◌≤◌, Some, MatchResult};
-ghost use Rattle.engine.specs.Cycle.{first_of};
-ghost use Rattle.rules.specs.Calls.{in_range, within_window, new_row, put, with_slots, rehearsed};
+#![tactic(auto, unfolding(rules::specs::Calls::checks, rules::specs::Calls::outcome))]
+
+ghost use Rattle.std.specs.Prelude.{◌≡◌, ℕ, ◌<◌};
+ghost use Rattle.rules.specs.Calls.{with_window, with_policy};
 ghost use Rattle.rules.specs.Calls.Call.{add, alter, drop, set_window, set_policy};
 ghost use Rattle.ftt.specs.Held.{standing};
-ghost use Rattle.ftt.specs.Told.{refusal_of, refusal_to, refused_by};
+ghost use Rattle.ftt.specs.Judged.{Judges, message_comes_to, told_outcome, with_rows};
 
 use crate::master::Master;
 use crate::master::checks::{
-    check_duration, check_durations, check_exists, check_figures, check_free, check_rehearsal,
-    check_used, check_width, new_row, slot, with_row,
+    check_duration, check_durations, check_figures, check_free, check_rehearsal, check_used,
+    check_width, new_row, slot, with_row,
 };
 use bus::refusal::Refusal;
-use engine::row::Figures;
+use bus::rows::ROWS;
+use engine::row::{Figures, Row};
 use orders::policy::Policy;
 
 impl<P: Policy> Master<P> {
-    // A new message on a row, whatever the row held.
-    fn judge_message(&self, row: u8, figures: Figures) -> Result<(), Refusal>
+    // The rows with a new message on one of them, whatever it held.
+    fn with_message(&self, row: u8, figures: Figures) -> Result<[Option<Row>; ROWS], Refusal>
         requires { row < 32 }
-        ensures { (n : ℕ) → refusal_of result ≡ first_of (in_range figures) (first_of (within_window self.now.window row figures) (refused_by (rehearsed P.Policy.goes 32 5040 (with_slots P.Policy.goes 32 5040 (standing self.now n) (put row (Some (new_row figures)) (standing self.now n).slots))))) }
+        ensures { (lost : ℕ) → told_outcome (λ rows. with_rows rows (standing self.now lost)) result ≡ message_comes_to P.Policy.goes (standing self.now lost) row figures }
     {
         check_figures(figures)?;
         check_duration(self.window, row, figures)?;
-        let changed = with_row(&self.rows, row, new_row(figures));
-        check_rehearsal(&changed, self.window, &self.policy)
+        let rows = with_row(&self.rows, row, Some(new_row(figures)));
+        check_rehearsal(&rows, self.window, &self.policy)?;
+        Ok(rows)
     }
 
-    pub(crate) fn judge_add(&self, row: u8, figures: Figures) -> Result<(), Refusal>
-        ensures refusal { (n : ℕ) → refusal_of result ≡ refusal_to P.Policy.goes 32 5040 (standing self.now n) (add row figures) }
-        ensures exists { MatchResult result (λ _. row < 32) (λ _. ⊥ → ⊥) }
+    // The rows with a message on a free row.
+    pub(crate) fn added(&self, row: u8, figures: Figures) -> Result<[Option<Row>; ROWS], Refusal>
+        ensures { Judges P.Policy.goes self.now (add row figures) with_rows result }
     {
-        check_exists(row)?;
-        check_free(slot(&self.rows, row))?;
-        self.judge_message(row, figures)
+        check_free(slot(&self.rows, row)?)?;
+        self.with_message(row, figures)
     }
 
-    pub(crate) fn judge_alter(&self, row: u8, figures: Figures) -> Result<(), Refusal>
-        ensures refusal { (n : ℕ) → refusal_of result ≡ refusal_to P.Policy.goes 32 5040 (standing self.now n) (alter row figures) }
-        ensures exists { MatchResult result (λ _. row < 32) (λ _. ⊥ → ⊥) }
+    // The rows with another message in the place of the row's. Beside `added` for the check and the call that its clause
+    // names: a function over both would take them as parameters and be no shorter.
+    pub(crate) fn altered(&self, row: u8, figures: Figures) -> Result<[Option<Row>; ROWS], Refusal>
+        ensures { Judges P.Policy.goes self.now (alter row figures) with_rows result }
     {
-        check_exists(row)?;
-        check_used(slot(&self.rows, row))?;
-        self.judge_message(row, figures)
+        check_used(slot(&self.rows, row)?)?;
+        self.with_message(row, figures)
     }
 
-    pub(crate) fn judge_drop(&self, row: u8) -> Result<(), Refusal>
-        ensures refusal { (n : ℕ) → refusal_of result ≡ refusal_to P.Policy.goes 32 5040 (standing self.now n) (drop row) }
-        ensures exists { MatchResult result (λ _. row < 32) (λ _. ⊥ → ⊥) }
+    // The rows without the row's message.
+    pub(crate) fn dropped(&self, row: u8) -> Result<[Option<Row>; ROWS], Refusal>
+        ensures { Judges P.Policy.goes self.now (drop row) with_rows result }
     {
-        check_exists(row)?;
-        check_used(slot(&self.rows, row))
+        check_used(slot(&self.rows, row)?)?;
+        Ok(with_row(&self.rows, row, None))
     }
 
     // A narrower window has to pass the rows and the rehearsal.
     pub(crate) fn judge_window(&self, window: u8) -> Result<(), Refusal>
-        ensures refusal { (n : ℕ) → refusal_of result ≡ refusal_to P.Policy.goes 32 5040 (standing self.now n) (set_window window) }
-        ensures opens { MatchResult result (λ _. 1 ≤ window) (λ _. ⊥ → ⊥) }
+        ensures { Judges P.Policy.goes self.now (set_window window) (λ _ s. with_window P.Policy.goes 32 5040 s window) result }
     {
         check_width(window)?;
         if self.window <= window {
@@ -67,7 +68,7 @@ impl<P: Policy> Master<P> {
     }
 
     pub(crate) fn judge_policy(&self, policy: &P) -> Result<(), Refusal>
-        ensures { (n : ℕ) → refusal_of result ≡ refusal_to P.Policy.goes 32 5040 (standing self.now n) (set_policy policy.now) }
+        ensures { Judges P.Policy.goes self.now (set_policy policy.now) (λ _ s. with_policy P.Policy.goes 32 5040 s policy.now) result }
     {
         check_rehearsal(&self.rows, self.window, policy)
     }

@@ -9,7 +9,7 @@ ghost use Rattle.ftt.specs.Told.{refusal_of, told_answer};
 
 use crate::change::Change;
 use crate::master::Master;
-use crate::master::checks::{check_exists, slot};
+use crate::master::checks::slot;
 use bus::refusal::Refusal;
 use bus::rows::ROWS;
 use engine::cycle::run_cycle;
@@ -21,13 +21,14 @@ const MOST_PLANNED: usize = 256;
 
 impl<P: Policy> Master<P> {
     // What a change would be answered.
+    #[tactic(auto, unfolding(rules::specs::Calls::step))]
     pub fn trial(&self, change: &Change<P>) -> Result<(), Refusal>
         ensures { (n : ℕ) → told_answer result ≡ answer P.Policy.goes 32 5040 (standing self.now n) (call_of change.now) }
     {
         match change {
-            Change::Add { row, figures } => self.judge_add(*row, *figures),
-            Change::Alter { row, figures } => self.judge_alter(*row, *figures),
-            Change::Drop { row } => self.judge_drop(*row),
+            Change::Add { row, figures } => self.added(*row, *figures).map(|_| ()),
+            Change::Alter { row, figures } => self.altered(*row, *figures).map(|_| ()),
+            Change::Drop { row } => self.dropped(*row).map(|_| ()),
             Change::Window { window } => self.judge_window(*window),
             Change::Policy { policy } => self.judge_policy(policy),
         }
@@ -38,12 +39,12 @@ impl<P: Policy> Master<P> {
         ensures refusal { refusal_of result ≡ refused_if (length words.old == 0 || nat_lt 256 (length words.old)) (numbered 9 []) }
         ensures words { MatchResult result (λ _. Planned P.Policy.goes self.now words.new) (λ _. words.new ≡ words.old) }
     {
-        if words.len() == 0 || words.len() > MOST_PLANNED {
+        if words.is_empty() || words.len() > MOST_PLANNED {
             return Err(Refusal::PlanLength);
         }
         let mut rows = self.rows;
-        for i in 0..words.len() {
-            words[i] = run_cycle(&mut rows, self.window, &self.policy)
+        for word in words.iter_mut() {
+            *word = run_cycle(&mut rows, self.window, &self.policy)
                 .schedule
                 .word;
         }
@@ -63,11 +64,9 @@ impl<P> Master<P> {
     pub fn row(&self, row: u8) -> Result<Figures, Refusal>
         ensures { answered result ≡ asked 32 (slots self.now.rows) row }
     {
-        check_exists(row)?;
-        match slot(&self.rows, row) {
-            Some(used) => Ok(used.figures),
-            None => Err(Refusal::RowEmpty),
-        }
+        slot(&self.rows, row)?
+            .map(|used| used.figures)
+            .ok_or(Refusal::RowEmpty)
     }
 
     // Whether two masters have the same window and the same messages, wherever their cycles are.
@@ -81,20 +80,16 @@ impl<P> Master<P> {
 fn same_messages(a: &[Option<Row>; ROWS], b: &[Option<Row>; ROWS]) -> bool
     ensures { Decides result ((k : ℕ) → k < 32 → figures_of (slots a.now k) ≡ figures_of (slots b.now k)) }
 {
-    for r in 0..ROWS {
-        if !same_message(a[r], b[r]) {
+    for (one, other) in a.iter().zip(b) {
+        if figures_of(*one) != figures_of(*other) {
             return false;
         }
     }
     true
 }
 
-fn same_message(a: Option<Row>, b: Option<Row>) -> bool
-    ensures { Decides result (figures_of a ≡ figures_of b) }
+fn figures_of(slot: Option<Row>) -> Option<Figures>
+    ensures { result ≡ figures_of slot }
 {
-    match (a, b) {
-        (Some(one), Some(other)) => one.figures == other.figures,
-        (None, None) => true,
-        _ => false,
-    }
+    slot.map(|row| row.figures)
 }

@@ -19,15 +19,15 @@ one_planned : (rules : Rules) (t now : Slots) (words : List ℕ) (i w : ℕ) →
 one_planned rules t now words i w within so_far is planned =
     below_more _ i (λ k h. let ne : k ≢ i = omega arith in get_or-set_other words i k w 0 ne ∙ planned k h) (get_or-set_same words i w 0 within ∙ is ∙ ap (word rules) so_far)
 
-pub loop-i-init : goal.loop-i-init
+pub loop-word-init : goal.loop-word-init
 unfolding after
-loop-i-init g c = (refl, λ k h. absurd (omega arith))
+loop-word-init g c = (refl, λ k h. absurd (omega arith))
 
-pub loop-i-preserved : goal.loop-i-preserved
-loop-i-preserved g c =
+pub loop-word-preserved : goal.loop-word-preserved
+loop-word-preserved g c =
     let rules = rules_of (g.P.Policy.goes c.args.self.now.policy) c.args.self.now.window in
     let t = slots c.args.self.now.rows in
-    let now = slots c.loop-i.rows in (
-      one_more rules t now (slots c.run_cycle.new.rows) c.loop-i.i c.loop-i.invariant.0 c.run_cycle.ensures.after,
-      one_planned rules t now c.loop-i.words c.loop-i.i c.run_cycle.result.schedule.word (omega arith) c.loop-i.invariant.0 c.run_cycle.ensures.word c.loop-i.invariant.1,
+    let now = slots c.loop-word.rows in (
+      one_more rules t now (slots c.run_cycle.new.rows) c.loop-word.word-index c.loop-word.invariant.0 c.run_cycle.ensures.after,
+      one_planned rules t now c.loop-word.words c.loop-word.word-index c.run_cycle.result.schedule.word (omega arith) c.loop-word.invariant.0 c.run_cycle.ensures.word c.loop-word.invariant.1,
     )

@@ -1,7 +1,7 @@
-use Rattle.std.proofs.Common.{◌≡◌, ℕ, ◌<◌}
+use Rattle.std.proofs.Common.{◌≡◌, ℕ, ◌<◌, length}
 use Rattle.engine.specs.Held.{slots}
 use Rattle.ftt.specs.Questions.{figures_of}
 use Rattle.ftt.proofs.master.questions.same_messages.Given as goal
 
-abbrev pub invariant-loop-r : goal.invariant-loop-r
-invariant-loop-r l = (k : ℕ) → k < l.r → figures_of (slots l.a k) ≡ figures_of (slots l.b k)
+abbrev pub invariant-loop-one : goal.invariant-loop-one
+invariant-loop-one l = (k : ℕ) → k < length l.yielded → figures_of (slots l.a k) ≡ figures_of (slots l.b k)

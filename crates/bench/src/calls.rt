@@ -1,6 +1,6 @@
 // Lists of calls and of lines that are drawn from a seed, to compare two masters by the checksum of all answers.
 use crate::board::Board;
-use crate::draws::{Drawn, drawn_line, spoil};
+use crate::draws::{Drawn, Line, spoil};
 use crate::random::Random;
 use crate::sum::{Sum, Summed};
 use bus::frame::frame_units;
@@ -90,33 +90,32 @@ impl<P: Policy + Drawn + Drop> Caller<P> {
         read.add_to(&mut self.sum);
     }
 
-    fn call(self) -> Caller<P> {
-        let mut caller = self;
-        match caller.random.below(16) {
+    fn call(mut self) -> Caller<P> {
+        match self.random.below(16) {
             0..=3 => {
-                let row = caller.random.byte(34);
-                let figures = Figures::drawn(&mut caller.random);
-                caller.make(Change::Add { row, figures });
+                let row = self.random.byte(34);
+                let figures = Figures::drawn(&mut self.random);
+                self.make(Change::Add { row, figures });
             }
             4 => {
-                let row = caller.random.byte(34);
-                caller.make(Change::Drop { row });
+                let row = self.random.byte(34);
+                self.make(Change::Drop { row });
             }
             5..=8 => {
-                let change = Change::drawn(&mut caller.random);
-                caller.make(change);
+                let change = Change::drawn(&mut self.random);
+                self.make(change);
             }
             9 => {
-                let change = Change::drawn(&mut caller.random);
-                let answer = caller.board.master.trial(&change);
-                answer.add_to(&mut caller.sum);
+                let change = Change::drawn(&mut self.random);
+                let answer = self.board.master.trial(&change);
+                answer.add_to(&mut self.sum);
             }
-            10 => caller.plan(),
-            11 => caller.ask(),
-            12 => caller.use_bus(),
-            _ => caller = caller.run_some(),
+            10 => self.plan(),
+            11 => self.ask(),
+            12 => self.use_bus(),
+            _ => self = self.run_some(),
         }
-        caller
+        self
     }
 }
 
@@ -129,8 +128,7 @@ pub fn calls<P: Policy + Drawn + Drop>(count: u32, seed: u32) -> Sum {
     caller.sum
 }
 
-fn one_line(session: Session, line: &[u8], number: u32, sum: &mut Sum) -> Session {
-    let mut session = session;
+fn one_line(mut session: Session, line: &[u8], number: u32, sum: &mut Sum) -> Session {
     match session.answer(line, number) {
         Reply::Nothing => {}
         Reply::Line(answer) => answer.add_to(sum),
@@ -151,7 +149,7 @@ pub fn lines(count: u32, seed: u32) -> Sum {
     let mut session = Session::new();
     let mut sum = Sum::new();
     for number in 0..count {
-        let mut line = drawn_line(&mut random);
+        let mut line = Line::drawn(&mut random);
         spoil(&mut line, &mut random);
         session = one_line(session, line.as_slice(), number, &mut sum);
     }

@@ -84,16 +84,14 @@ impl Drawn for Figures {
 impl<P: Drawn> Drawn for Change<P> {
     fn drawn(random: &mut Random) -> Change<P> {
         match random.below(5) {
-            0 => {
-                let row = random.byte(34);
-                let figures = Figures::drawn(random);
-                Change::Add { row, figures }
-            }
-            1 => {
-                let row = random.byte(34);
-                let figures = Figures::drawn(random);
-                Change::Alter { row, figures }
-            }
+            0 => Change::Add {
+                row: random.byte(34),
+                figures: Figures::drawn(random),
+            },
+            1 => Change::Alter {
+                row: random.byte(34),
+                figures: Figures::drawn(random),
+            },
             2 => Change::Drop {
                 row: random.byte(34),
             },
@@ -152,10 +150,12 @@ fn put_form(line: &mut Line, random: &mut Random) -> io::Result<()> {
 }
 
 // A line that says something, before anything is spoiled.
-pub fn drawn_line(random: &mut Random) -> Line {
-    let mut line = Line::new();
-    let _ = put_form(&mut line, random);
-    line
+impl Drawn for Line {
+    fn drawn(random: &mut Random) -> Line {
+        let mut line = Line::new();
+        let _ = put_form(&mut line, random);
+        line
+    }
 }
 
 const SIGNS: [u8; 16] = [

@@ -11,6 +11,7 @@ use orders::policy::Policy;
 use orders::selector::Selector;
 use session::reply::Reply;
 use session::session::Session;
+use std::error::Error;
 use std::fmt;
 use text::text::Text;
 
@@ -22,6 +23,8 @@ impl fmt::Display for NoSuchScenario {
         write!(f, "no such scenario")
     }
 }
+
+impl Error for NoSuchScenario {}
 
 // The lines that are read, by their size.
 fn line_of(size: u32) -> &'static [u8] {
@@ -55,7 +58,7 @@ impl Count {
 
     // `next` on a table.
     fn cycles<P: Policy + Drop>(&mut self, board: Board<P>) {
-        let _board = board.run_cycles(self.repeats, &mut self.sum, OwedTrigger::sent);
+        let _ = board.run_cycles(self.repeats, &mut self.sum, OwedTrigger::sent);
     }
 
     // `next` with so many rows waiting.

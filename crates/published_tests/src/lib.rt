@@ -5,58 +5,77 @@
 #[cfg(test)]
 mod tests {
     use bus::refusal::Refusal;
+    use bus::rows::RowSet;
     use engine::row::Figures;
     use ftt::master::Master;
     use ftt::watch::IdleWatch;
     use orders::keyed::RateMonotonic;
+    use std::alloc::{AllocError, Global};
+    use std::iter;
 
-    // Some messages of one of the benchmark's types: their period and deadline in cycles.
+    // Messages with the same figures: units, and period and deadline in cycles.
     #[derive(Clone, Copy)]
     struct Group {
-        messages: u8,
+        messages: usize,
+        duration: u8,
         period: u8,
         deadline: u8,
     }
 
+    const FRAME_UNITS: u8 = 23;
+
+    // The benchmark's types.
     const TYPE_A: Group = Group {
         messages: 8,
+        duration: FRAME_UNITS,
         period: 1,
         deadline: 1,
     };
 
     const TYPE_B: Group = Group {
         messages: 2,
+        duration: FRAME_UNITS,
         period: 2,
         deadline: 2,
     };
 
     const TYPE_D: Group = Group {
         messages: 8,
+        duration: FRAME_UNITS,
         period: 10,
         deadline: 4,
     };
 
     const TYPE_E: Group = Group {
         messages: 6,
+        duration: FRAME_UNITS,
         period: 20,
         deadline: 20,
     };
 
     const TYPE_F: Group = Group {
         messages: 6,
+        duration: FRAME_UNITS,
         period: 200,
         deadline: 200,
     };
 
-    const FRAME_UNITS: u8 = 23;
+    const EVERY_ROW: Group = Group {
+        messages: 32,
+        duration: 6,
+        period: 1,
+        deadline: 1,
+    };
 
-    fn message(group: Group) -> Figures {
-        Figures {
-            duration: FRAME_UNITS,
-            period: group.period,
-            deadline: group.deadline,
-            phase: 0,
-            priority: 0,
+    impl Group {
+        fn message(self) -> Figures {
+            Figures {
+                duration: self.duration,
+                period: self.period,
+                deadline: self.deadline,
+                phase: 0,
+                priority: 0,
+            }
         }
     }
 
@@ -66,14 +85,13 @@ mod tests {
         watch: &IdleWatch,
         groups: &[Group],
     ) -> Result<u8, Refusal> {
-        let mut row: u8 = 0;
-        for group in groups {
-            for _ in 0..group.messages {
-                master.add(watch, row, message(*group))?;
-                row = row.saturating_add(1);
-            }
-        }
-        Ok(row)
+        let mut messages = groups
+            .iter()
+            .flat_map(|group| iter::repeat_n(group.message(), group.messages));
+        messages.try_fold(0, |row: u8, message| -> Result<u8, Refusal> {
+            master.add(watch, row, message)?;
+            Ok(row.saturating_add(1))
+        })
     }
 
     // The answer to one more of the slowest messages in a window of so many units.
@@ -81,7 +99,24 @@ mod tests {
         let (mut master, watch) = Master::new(RateMonotonic);
         master.set_window(&watch, window)?;
         let row = fill(&mut master, &watch, groups)?;
-        master.add(&watch, row, message(TYPE_F))
+        master.add(&watch, row, TYPE_F.message())
+    }
+
+    // The schedules of so many cycles.
+    fn schedules(
+        alloc: Global,
+        master: &mut Master<RateMonotonic>,
+        mut watch: IdleWatch,
+        cycles: usize,
+    ) -> Result<Vec<RowSet>, AllocError> {
+        let mut all = Vec::new(alloc);
+        for _ in 0..cycles {
+            let owed = master.next(watch);
+            let schedule = owed.schedule();
+            watch = owed.sent();
+            all.push(schedule)?;
+        }
+        Ok(all)
     }
 
     #[test]
@@ -103,63 +138,29 @@ mod tests {
         );
     }
 
-    // The first of so many cycles that schedules a row; 0 if none does.
-    fn first_cycle(master: &mut Master<RateMonotonic>, idle: IdleWatch, row: u8, most: u8) -> u8 {
-        let mut watch = idle;
-        let mut first = 0;
-        for cycle in 1..=most {
-            let owed = master.next(watch);
-            if first == 0 && owed.schedule().contains(row) {
-                first = cycle;
-            }
-            watch = owed.sent();
-        }
-        first
-    }
-
     #[test]
-    fn a_wider_window_takes_the_whole_benchmark_and_one_more(rt: HostRuntime) {
+    fn a_wider_window_takes_the_whole_benchmark_and_one_more(
+        rt: HostRuntime,
+    ) -> Result<(), AllocError> {
         let groups = [TYPE_A, TYPE_B, TYPE_D, TYPE_E, TYPE_F];
         let (mut master, watch) = Master::new(RateMonotonic);
-        let window = master.set_window(&watch, 253);
-        let row = fill(&mut master, &watch, &groups);
-        let added = master.add(&watch, 30, message(TYPE_F));
-        let first = first_cycle(&mut master, watch, 30, 20);
-        assert_eq!(rt; window, Ok(()));
-        assert_eq!(rt; row, Ok(30));
-        assert_eq!(rt; added, Ok(()));
-        assert_eq!(rt; first, 15);
-    }
-
-    // Thirty-two messages of 6 units in every cycle.
-    fn fill_all(master: &mut Master<RateMonotonic>, watch: &IdleWatch) -> Result<(), Refusal> {
-        for row in 0..32 {
-            let figures = Figures {
-                duration: 6,
-                period: 1,
-                deadline: 1,
-                phase: 0,
-                priority: 0,
-            };
-            master.add(watch, row, figures)?;
-        }
+        assert_eq!(rt; master.set_window(&watch, 253), Ok(()));
+        assert_eq!(rt; fill(&mut master, &watch, &groups), Ok(30));
+        assert_eq!(rt; master.add(&watch, 30, TYPE_F.message()), Ok(()));
+        let schedules = schedules(rt.alloc(), &mut master, watch, 20)?;
+        let first = (1..=20)
+            .zip(&schedules)
+            .find(|(_, schedule)| schedule.contains(30));
+        assert_eq!(rt; first.map(|(cycle, _)| cycle), Some(15));
         Ok(())
     }
 
     #[test]
-    fn thirty_two_messages_go_in_every_cycle(rt: HostRuntime) {
-        let (mut master, idle) = Master::new(RateMonotonic);
-        let filled = fill_all(&mut master, &idle);
-        let mut watch = idle;
-        let mut others = 0;
-        for _ in 0..100 {
-            let owed = master.next(watch);
-            if owed.schedule().word != u32::MAX {
-                others = 1;
-            }
-            watch = owed.sent();
-        }
-        assert_eq!(rt; filled, Ok(()));
-        assert_eq!(rt; others, 0);
+    fn thirty_two_messages_go_in_every_cycle(rt: HostRuntime) -> Result<(), AllocError> {
+        let (mut master, watch) = Master::new(RateMonotonic);
+        assert_eq!(rt; fill(&mut master, &watch, &[EVERY_ROW]), Ok(32));
+        let schedules = schedules(rt.alloc(), &mut master, watch, 100)?;
+        assert!(rt; schedules.iter().all(|schedule| schedule.word == u32::MAX));
+        Ok(())
     }
 }

@@ -105,7 +105,7 @@ impl<P: Drawn> Drawn for Change<P> {
     }
 }
 
-// A line as it is sent, its bytes perhaps no text. What does not fit is let go.
+// A line as it is sent, its bytes perhaps no text. What does not fit is let go; there is no heap to be counted.
 pub type Line = ArrayVec<u8, 160>;
 
 const NAMES: [&str; 4] = ["rm", "dm", "pr", "edf"];

@@ -16,6 +16,7 @@ use std::num::IntErrorKind;
 use std::rt::Env;
 use std::{io, str};
 
+// Room for an argument, with no heap: this program is to be linked without one.
 const MOST_IN_ARGUMENT: usize = 32;
 
 type Argument = ArrayString<MOST_IN_ARGUMENT>;

@@ -35,6 +35,7 @@ fn line_of(size: u32) -> &'static [u8] {
     }
 }
 
+// A scenario's arguments, and the checksum of what it is answered.
 #[derive(Drop)]
 pub struct Count {
     repeats: u32,
@@ -51,7 +52,6 @@ impl Count {
         }
     }
 
-    // The checksum of what was answered.
     pub fn sum(&self) -> u32 {
         self.sum.value()
     }
@@ -157,6 +157,7 @@ impl Count {
         self.sum.add_bytes(last.bytes());
     }
 
+    // A match and no table of steps: they differ in the type of their policy.
     pub fn run(&mut self, name: &str) -> Result<(), NoSuchScenario> {
         let rm = Selector::RateMonotonic;
         let pr = Selector::FixedPriority;

@@ -67,6 +67,7 @@ impl Crew {
     }
 
     // Runs cycles; the triggers of the first `lost` of them are reported lost, the others sent.
+    // The loop is written out, since the misuses that the build has to refuse are edits of its lines.
     pub fn run(self, cycles: u32, lost: u32) -> Crew {
         let Crew {
             mut master,

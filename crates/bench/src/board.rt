@@ -1,11 +1,11 @@
 // A master with its watch, and the operations on it that are counted. All of this only drives the library, so it has
-// no contract: it is proved to be safe and to return.
-use crate::sum::Sum;
+// no contract beyond what its closures need: it is proved to be safe and to return.
+use crate::sum::{Sum, Summed};
 use bus::refusal::Refusal;
 use engine::row::Figures;
 use ftt::change::Change;
 use ftt::master::Master;
-use ftt::watch::IdleWatch;
+use ftt::watch::{IdleWatch, OwedTrigger};
 use orders::policy::Policy;
 
 #[derive(Drop)]
@@ -14,12 +14,11 @@ pub struct Board<P> {
     pub watch: IdleWatch,
 }
 
-// Notes the answer by its number, 0 for a change that is made.
-fn note(sum: &mut Sum, answer: Result<(), Refusal>) {
-    match answer {
-        Ok(()) => sum.add(0),
-        Err(refusal) => sum.add(u32::from(refusal.number())),
-    }
+// The number of the answer, 0 for a change that is made.
+fn number_of(answer: Result<(), Refusal>) -> u32 {
+    answer
+        .err()
+        .map_or(0, |refusal| u32::from(refusal.number()))
 }
 
 impl<P: Policy + Drop> Board<P> {
@@ -28,48 +27,52 @@ impl<P: Policy + Drop> Board<P> {
         Board { master, watch }
     }
 
-    pub fn add(&mut self, row: u8, figures: Figures) {
-        let _ = self.master.add(&self.watch, row, figures);
+    pub fn make(&mut self, change: Change<P>) -> Result<(), Refusal> {
+        match change {
+            Change::Add { row, figures } => self.master.add(&self.watch, row, figures),
+            Change::Alter { row, figures } => self.master.alter(&self.watch, row, figures),
+            Change::Drop { row } => self.master.drop_row(&self.watch, row),
+            Change::Window { window } => self.master.set_window(&self.watch, window),
+            Change::Policy { policy } => self.master.set_policy(&self.watch, policy),
+        }
     }
 
-    pub fn run_cycles(self, cycles: u32, sum: &mut Sum) -> Board<P> {
+    pub fn run_cycles<F: FnMut(OwedTrigger) -> IdleWatch>(
+        self,
+        cycles: u32,
+        sum: &mut Sum,
+        mut report: F,
+    ) -> Board<P>
+        requires { F.IsAlwaysCallable report }
+    {
         let Board {
             mut master,
             mut watch,
         } = self;
         for _ in 0..cycles {
             let owed = master.next(watch);
-            sum.add(owed.schedule().word);
-            watch = owed.sent();
+            owed.schedule().add_to(sum);
+            watch = report(owed);
         }
         Board { master, watch }
     }
 
-    // Trials of a new row; the priority varies, so that no two are the same question.
-    pub fn run_trials(&self, repeats: u32, row: u8, new: Figures, sum: &mut Sum) {
-        for turn in 0..repeats {
-            let priority = (turn & 255) as u8;
-            let figures = Figures { priority, ..new };
-            note(sum, self.master.trial(&Change::Add { row, figures }));
+    // Trials of a change for each turn.
+    pub fn run_trials<F: Fn(u32) -> Change<P>>(&self, turns: u32, sum: &mut Sum, change: F)
+        requires { F.IsAlwaysCallable change }
+    {
+        for turn in 0..turns {
+            sum.add(number_of(self.master.trial(&change(turn))));
         }
     }
 
-    // The row is added and dropped again.
-    pub fn run_pairs(&mut self, repeats: u32, row: u8, new: Figures, sum: &mut Sum) {
-        for turn in 0..repeats {
-            let priority = (turn & 255) as u8;
-            let figures = Figures { priority, ..new };
-            note(sum, self.master.add(&self.watch, row, figures));
-            note(sum, self.master.drop_row(&self.watch, row));
-        }
-    }
-}
-
-impl<P: Policy + Copy + Drop> Board<P> {
-    // Rehearsals of the table as it stands.
-    pub fn run_rehearsals(&self, policy: P, repeats: u32, sum: &mut Sum) {
-        for _ in 0..repeats {
-            note(sum, self.master.trial(&Change::Policy { policy }));
+    // For each turn a row is added and dropped again.
+    pub fn run_pairs<F: Fn(u32) -> Figures>(&mut self, turns: u32, row: u8, sum: &mut Sum, new: F)
+        requires { F.IsAlwaysCallable new }
+    {
+        for turn in 0..turns {
+            sum.add(number_of(self.master.add(&self.watch, row, new(turn))));
+            sum.add(number_of(self.master.drop_row(&self.watch, row)));
         }
     }
 }

@@ -1,33 +1,41 @@
 // Figures, policies, changes and lines that a seed decides. They only feed the library, and have no contract.
-use crate::draft::Text;
 use crate::random::Random;
+use arrayvec::ArrayVec;
 use engine::row::Figures;
 use ftt::change::Change;
 use orders::layers::{Pinned, Urgent};
-use orders::policy::Policy;
 use orders::selector::Selector;
-use std::fmt;
-use std::fmt::Write;
+use std::io::Write;
+use std::{io, iter};
 
-pub trait Drawn: Policy + Drop {
+pub trait Drawn {
     fn drawn(random: &mut Random) -> Self;
 }
 
 impl Drawn for Selector {
     fn drawn(random: &mut Random) -> Selector {
-        Selector::try_from(random.byte(4)).unwrap_or(Selector::RateMonotonic)
+        random.one_of(&[
+            Selector::RateMonotonic,
+            Selector::DeadlineMonotonic,
+            Selector::FixedPriority,
+            Selector::EarliestDeadline,
+        ])
     }
 }
 
-impl Drawn for Urgent<Pinned<Selector>> {
-    fn drawn(random: &mut Random) -> Urgent<Pinned<Selector>> {
+impl<P: Drawn> Drawn for Urgent<P> {
+    fn drawn(random: &mut Random) -> Urgent<P> {
         let limit = random.byte(8);
+        let below = P::drawn(random);
+        Urgent { limit, below }
+    }
+}
+
+impl<P: Drawn> Drawn for Pinned<P> {
+    fn drawn(random: &mut Random) -> Pinned<P> {
         let row = random.byte(40);
-        let below = <Selector as Drawn>::drawn(random);
-        Urgent {
-            limit,
-            below: Pinned { row, below },
-        }
+        let below = P::drawn(random);
+        Pinned { row, below }
     }
 }
 
@@ -45,67 +53,64 @@ fn tight_figures(random: &mut Random) -> Figures {
     }
 }
 
-pub fn drawn_figures(random: &mut Random) -> Figures {
-    if random.is_tight() && random.below(8) != 0 {
-        return tight_figures(random);
-    }
-    let duration = random.byte(24);
-    let period = PERIODS[random.below(16) as usize % 16];
-    let deadline = if random.below(2) == 0 {
-        period
-    } else {
-        random.byte(u32::from(period) + 2)
-    };
-    let phase = if random.below(8) == 0 {
-        random.byte(256)
-    } else {
-        random.byte(12)
-    };
-    let priority = random.byte(4);
-    Figures {
-        duration,
-        period,
-        deadline,
-        phase,
-        priority,
+impl Drawn for Figures {
+    fn drawn(random: &mut Random) -> Figures {
+        if random.is_tight() && random.below(8) != 0 {
+            return tight_figures(random);
+        }
+        let duration = random.byte(24);
+        let period = random.one_of(&PERIODS);
+        let deadline = if random.below(2) == 0 {
+            period
+        } else {
+            random.byte(u32::from(period) + 2)
+        };
+        let phase = if random.below(8) == 0 {
+            random.byte(256)
+        } else {
+            random.byte(12)
+        };
+        let priority = random.byte(4);
+        Figures {
+            duration,
+            period,
+            deadline,
+            phase,
+            priority,
+        }
     }
 }
 
-fn drawn_window(random: &mut Random) -> u8 {
-    if random.is_tight() {
-        random.byte(256)
-    } else {
-        random.byte(80)
+impl<P: Drawn> Drawn for Change<P> {
+    fn drawn(random: &mut Random) -> Change<P> {
+        match random.below(5) {
+            0 => Change::Add {
+                row: random.byte(34),
+                figures: Figures::drawn(random),
+            },
+            1 => Change::Alter {
+                row: random.byte(34),
+                figures: Figures::drawn(random),
+            },
+            2 => Change::Drop {
+                row: random.byte(34),
+            },
+            3 => Change::Window {
+                window: random.byte(if random.is_tight() { 256 } else { 80 }),
+            },
+            _ => Change::Policy {
+                policy: P::drawn(random),
+            },
+        }
     }
 }
 
-pub fn drawn_change<P: Drawn>(random: &mut Random) -> Change<P> {
-    match random.below(5) {
-        0 => {
-            let row = random.byte(34);
-            let figures = drawn_figures(random);
-            Change::Add { row, figures }
-        }
-        1 => {
-            let row = random.byte(34);
-            let figures = drawn_figures(random);
-            Change::Alter { row, figures }
-        }
-        2 => Change::Drop {
-            row: random.byte(34),
-        },
-        3 => Change::Window {
-            window: drawn_window(random),
-        },
-        _ => Change::Policy {
-            policy: P::drawn(random),
-        },
-    }
-}
+// A line as it is sent, its bytes perhaps no text. What does not fit is let go; there is no heap to be counted.
+pub type Line = ArrayVec<u8, 160>;
 
 const NAMES: [&str; 4] = ["rm", "dm", "pr", "edf"];
 
-fn put_message(text: &mut Text, word: &str, random: &mut Random) -> fmt::Result {
+fn put_message(line: &mut Line, word: &str, random: &mut Random) -> io::Result<()> {
     let row = random.below(34);
     let Figures {
         duration,
@@ -113,84 +118,86 @@ fn put_message(text: &mut Text, word: &str, random: &mut Random) -> fmt::Result 
         deadline,
         phase,
         priority,
-    } = drawn_figures(random);
+    } = Figures::drawn(random);
     write!(
-        text,
+        line,
         "({word} {row} {duration} {period} {deadline} {phase} {priority})"
     )
 }
 
-fn put_number(text: &mut Text, word: &str, number: u32) -> fmt::Result {
-    write!(text, "({word} {number})")
+fn put_number(line: &mut Line, word: &str, number: u32) -> io::Result<()> {
+    write!(line, "({word} {number})")
 }
 
-fn put_form(text: &mut Text, random: &mut Random) -> fmt::Result {
+fn put_form(line: &mut Line, random: &mut Random) -> io::Result<()> {
     match random.below(8) {
-        0 => put_number(text, "window", random.below(90)),
+        0 => put_number(line, "window", random.below(90)),
         1 => {
-            let name = NAMES[random.below(4) as usize % 4];
-            write!(text, "(policy {name})")
+            let name = random.one_of(&NAMES);
+            write!(line, "(policy {name})")
         }
-        2 => put_number(text, "drop", random.below(34)),
-        3 => put_number(text, "next", random.below(12)),
-        4 => write!(text, "(which)"),
+        2 => put_number(line, "drop", random.below(34)),
+        3 => put_number(line, "next", random.below(12)),
+        4 => write!(line, "(which)"),
         5 => {
             let bits = random.below(3_000);
             let bytes = random.below(11);
-            write!(text, "(frame {bits} {bytes})")
+            write!(line, "(frame {bits} {bytes})")
         }
-        6 => put_message(text, "add", random),
-        _ => put_message(text, "alter", random),
+        6 => put_message(line, "add", random),
+        _ => put_message(line, "alter", random),
     }
 }
 
 // A line that says something, before anything is spoiled.
-pub fn drawn_line(random: &mut Random) -> Text {
-    let mut text = Text::new();
-    let _ = put_form(&mut text, random);
-    text
+impl Drawn for Line {
+    fn drawn(random: &mut Random) -> Line {
+        let mut line = Line::new();
+        let _ = put_form(&mut line, random);
+        line
+    }
 }
 
 const SIGNS: [u8; 16] = [
     b'(', b')', b' ', b'0', b'1', b'2', b'9', b'a', b'z', b'e', b'q', b'A', b'R', b'\r', 255, 0,
 ];
 
-fn drawn_sign(random: &mut Random) -> u8 {
-    SIGNS[random.below(16) as usize % 16]
-}
-
 // The closing bracket makes room for a number behind this sign.
-fn put_behind(text: &mut Text, random: &mut Random, between: &str) -> fmt::Result {
-    text.cut(text.bytes().len().saturating_sub(1));
+fn put_behind(line: &mut Line, random: &mut Random, between: &str) -> io::Result<()> {
+    let _ = line.pop();
     let number = random.below(100);
-    write!(text, "{between}{number})")
+    write!(line, "{between}{number})")
 }
 
-fn lengthen(text: &mut Text, random: &mut Random) {
-    text.cut(text.bytes().len().saturating_sub(1));
-    for _ in 0..random.below(130) {
-        text.push(b'0');
-    }
-    text.push(b')');
+fn lengthen(line: &mut Line, random: &mut Random) {
+    let _ = line.pop();
+    let zeros = random.below(130) as usize;
+    let _ = line.extend(iter::repeat_n(b'0', zeros));
+    let _ = line.try_push(b')');
 }
 
 // Spoils some lines: another byte somewhere, an early end, more behind it, a larger number, too long a line.
-pub fn spoil(text: &mut Text, random: &mut Random) {
-    let length = text.length();
+pub fn spoil(line: &mut Line, random: &mut Random) {
+    let length = line.len() as u32;
     match random.below(16) {
         0 => {
             let place = random.below(length) as usize;
-            text.replace(place, drawn_sign(random));
+            let sign = random.one_of(&SIGNS);
+            if let Some(byte) = line.get_mut(place) {
+                *byte = sign;
+            }
         }
-        1 => text.cut(random.below(length + 1) as usize),
-        2 => text.push(drawn_sign(random)),
+        1 => line.truncate(random.below(length + 1) as usize),
+        2 => {
+            let _ = line.try_push(random.one_of(&SIGNS));
+        }
         3 => {
-            let _ = put_behind(text, random, "");
+            let _ = put_behind(line, random, "");
         }
         4 => {
-            let _ = put_behind(text, random, " ");
+            let _ = put_behind(line, random, " ");
         }
-        5 => lengthen(text, random),
+        5 => lengthen(line, random),
         _ => {}
     }
 }

@@ -4,54 +4,48 @@
 
 mod board;
 mod calls;
-mod draft;
 mod draws;
 mod random;
 mod scenarios;
 mod sum;
 mod tables;
 
-use scenarios::{Scenario, run, scenario_named};
-use std::io;
+use arrayvec::ArrayString;
+use scenarios::Count;
+use std::num::IntErrorKind;
 use std::rt::Env;
-use sum::Sum;
+use std::{io, str};
 
+// Room for an argument, with no heap: this program is to be linked without one.
 const MOST_IN_ARGUMENT: usize = 32;
 
-// The number that these digits write, cut at the largest.
-fn number_of(digits: &[u8]) -> u32 {
-    let mut value = 0u32;
-    for digit in digits {
-        let next = u32::from(digit.saturating_sub(b'0'));
-        value = value.saturating_mul(10).saturating_add(next);
-    }
-    value
+type Argument = ArrayString<MOST_IN_ARGUMENT>;
+
+// An argument; none where it is missing, too long or no text.
+fn argument(rt: &HostRuntime, place: usize) -> Option<Argument> {
+    let mut buffer = [0; MOST_IN_ARGUMENT];
+    let length = rt.arg(place, &mut buffer).ok()?;
+    let text = str::from_utf8(&buffer[..length]).ok()?;
+    Argument::from(text).ok()
 }
 
-// A missing argument, or one that is too long, counts as 0.
-fn number_at(rt: &HostRuntime, place: usize) -> u32 {
-    let mut word = [0u8; MOST_IN_ARGUMENT];
-    match rt.arg(place, &mut word) {
-        Ok(length) => number_of(&word[0..length]),
+// The number in an argument, cut at the largest; what is no number counts as 0.
+fn number(rt: &HostRuntime, place: usize) -> u32 {
+    let Some(word) = argument(rt, place) else {
+        return 0;
+    };
+    match word.as_str().parse() {
+        Ok(number) => number,
+        Err(error) if *error.kind() == IntErrorKind::PosOverflow => u32::MAX,
         Err(_) => 0,
     }
 }
 
-fn scenario_at(rt: &HostRuntime, place: usize) -> Option<Scenario> {
-    let mut word = [0u8; MOST_IN_ARGUMENT];
-    match rt.arg(place, &mut word) {
-        Ok(length) => scenario_named(&word[0..length]),
-        Err(_) => None,
-    }
-}
-
 fn main(rt: HostRuntime) -> io::Result<()> {
-    let repeats = number_at(&rt, 2);
-    let size = number_at(&rt, 3);
-    let mut sum = Sum::new();
-    match scenario_at(&rt, 1) {
-        Some(scenario) => run(scenario, repeats, size, &mut sum),
-        None => rt.println("no such scenario")?,
+    let name = argument(&rt, 1).unwrap_or_default();
+    let mut count = Count::new(number(&rt, 2), number(&rt, 3));
+    if let Err(error) = count.run(name.as_str()) {
+        rt.println(error)?;
     }
-    rt.println(sum.value())
+    rt.println(count.sum())
 }

@@ -1,4 +1,5 @@
 // Numbers that a seed decides.
+ghost use Rattle.std.specs.Prelude.{◌<◌, ◌≤◌};
 
 #[derive(Drop)]
 pub struct Random {
@@ -20,7 +21,9 @@ impl Random {
     }
 
     // A number below the bound, which is at most 65,536; 0 where the bound is 0.
-    pub fn below(&mut self, bound: u32) -> u32 {
+    pub fn below(&mut self, bound: u32) -> u32
+        ensures { 0 < bound → result < bound }
+    {
         self.state = self
             .state
             .wrapping_mul(1_664_525)
@@ -30,6 +33,13 @@ impl Random {
 
     // Likewise, for a bound of at most 256.
     pub fn byte(&mut self, bound: u32) -> u8 {
-        (self.below(bound) & 255) as u8
+        u8::try_from(self.below(bound)).unwrap_or(u8::MAX)
+    }
+
+    pub fn one_of<T: Copy, const COUNT: usize>(&mut self, choices: &[T; COUNT]) -> T
+        requires some { 0 < COUNT }
+        requires few { COUNT ≤ 65536 }
+    {
+        choices[self.below(COUNT as u32) as usize]
     }
 }

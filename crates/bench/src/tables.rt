@@ -1,19 +1,21 @@
 // The tables that are counted.
 use crate::board::Board;
 use engine::row::Figures;
+use ftt::change::Change;
 use orders::keyed::RateMonotonic;
 use orders::policy::Policy;
 use orders::selector::Selector;
+use std::iter;
 
 // Rows that are entered alike.
 #[derive(Clone, Copy)]
 struct Batch {
-    count: u8,
+    count: usize,
     period: u8,
     deadline: u8,
 }
 
-fn rows_like(count: u8, period: u8, deadline: u8) -> Batch {
+fn rows_like(count: usize, period: u8, deadline: u8) -> Batch {
     Batch {
         count,
         period,
@@ -21,7 +23,7 @@ fn rows_like(count: u8, period: u8, deadline: u8) -> Batch {
     }
 }
 
-pub fn figures(duration: u8, period: u8, deadline: u8, phase: u8, priority: u8) -> Figures {
+fn figures(duration: u8, period: u8, deadline: u8, phase: u8, priority: u8) -> Figures {
     Figures {
         duration,
         period,
@@ -31,20 +33,41 @@ pub fn figures(duration: u8, period: u8, deadline: u8, phase: u8, priority: u8) 
     }
 }
 
-// The order of the priorities: against the rows, or across them.
-pub const REVERSED: u8 = 1;
+impl<P: Policy + Drop> Board<P> {
+    fn add(&mut self, row: u8, figures: Figures) {
+        let _ = self.make(Change::Add { row, figures });
+    }
 
-pub const MIXED: u8 = 13;
+    // Adds the batches from row 0 on, for each row the message that its batch and its number give.
+    fn add_batches<F: Fn(Batch, u8) -> Figures>(&mut self, batches: &[Batch], message: F)
+        requires { F.IsAlwaysCallable message }
+    {
+        let each = batches
+            .iter()
+            .flat_map(|batch| iter::repeat_n(*batch, batch.count));
+        for (row, batch) in (0..32).zip(each) {
+            self.add(row, message(batch, row));
+        }
+    }
+}
 
-fn priority_of(row: u8, order: u8) -> u8 {
-    31u8.saturating_sub(row).wrapping_mul(order) % 32
+// Priorities against the rows.
+pub fn reversed(row: u8) -> u8 {
+    31u8.saturating_sub(row)
+}
+
+// Priorities across them.
+pub fn mixed(row: u8) -> u8 {
+    reversed(row).wrapping_mul(13) % 32
 }
 
 // So many rows that all wait in every cycle and all fit.
-pub fn full<P: Policy + Drop>(policy: P, rows: u8, order: u8) -> Board<P> {
+pub fn full<P: Policy + Drop, F: Fn(u8) -> u8>(policy: P, rows: u8, priority: F) -> Board<P>
+    requires { F.IsAlwaysCallable priority }
+{
     let mut board = Board::new(policy);
     for row in 0..rows {
-        board.add(row, figures(6, 1, 1, 0, priority_of(row, order)));
+        board.add(row, figures(6, 1, 1, 0, priority(row)));
     }
     board
 }
@@ -59,18 +82,19 @@ pub fn cart<P: Policy + Drop>(policy: P) -> Board<P> {
         rows_like(6, 200, 200),
     ];
     let mut board = Board::new(policy);
-    let _ = board.master.set_window(&board.watch, 230);
-    let mut row = 0u8;
-    for b in batches {
-        for _ in 0..b.count {
-            board.add(row, figures(23, b.period, b.deadline, 0, 0));
-            row = row.saturating_add(1);
-        }
-    }
+    let _ = board.make(Change::Window { window: 230 });
+    board.add_batches(&batches, |batch, _| {
+        figures(23, batch.period, batch.deadline, 0, 0)
+    });
     board
 }
 
-// 31 rows that take the whole window each, and settle. `LAST_IN_CROWD` then asks for one cycle more than a round has.
+// A 27th row for it. The priority varies from turn to turn, so that no two are the same question.
+pub fn one_more(turn: u32) -> Figures {
+    figures(23, 200, 200, 0, (turn & 255) as u8)
+}
+
+// 31 rows that take the whole window each, and settle.
 pub fn crowd() -> Board<Selector> {
     let batches = [
         rows_like(17, 36, 36),
@@ -79,23 +103,16 @@ pub fn crowd() -> Board<Selector> {
         rows_like(8, 35, 35),
     ];
     let mut board = Board::new(Selector::EarliestDeadline);
-    let mut row = 0u8;
-    for b in batches {
-        for _ in 0..b.count {
-            board.add(row, figures(255, b.period, b.deadline, row, 0));
-            row = row.saturating_add(1);
-        }
-    }
+    board.add_batches(&batches, |batch, row| {
+        figures(255, batch.period, batch.deadline, row, 0)
+    });
     board
 }
 
-pub const LAST_IN_CROWD: Figures = Figures {
-    duration: 255,
-    period: 35,
-    deadline: 35,
-    phase: 255,
-    priority: 0,
-};
+// The last row of the crowd asks for one cycle more than a round has.
+pub fn last_in_crowd(turn: u32) -> Figures {
+    figures(255, 35, 35, 255, (turn & 255) as u8)
+}
 
 // Two periods whose least common multiple is the round.
 fn periods_for(round: u32) -> (u8, u8) {
@@ -114,7 +131,7 @@ fn periods_for(round: u32) -> (u8, u8) {
 pub fn two_periods(round: u32) -> Board<RateMonotonic> {
     let (even, odd) = periods_for(round);
     let mut board = Board::new(RateMonotonic);
-    for row in 0..16u8 {
+    for row in 0..16 {
         let period = if row % 2 == 0 { even } else { odd };
         board.add(row, figures(15, period, period, 0, 0));
     }

@@ -2,30 +2,17 @@
 #![tactic(auto)]
 
 #[cfg(test)]
+mod messages;
+#[cfg(test)]
 mod rehearsals;
 
 #[cfg(test)]
 mod tests {
+    use crate::messages::{fresh, table};
     use bus::rows::ROWS;
     use engine::cycle::run_cycle;
-    use engine::row::{Figures, Row};
+    use engine::row::Row;
     use orders::keyed::RateMonotonic;
-
-    // A message due by its next release, about to release its first instance.
-    fn fresh(duration: u8, period: u8) -> Option<Row> {
-        let figures = Figures {
-            duration,
-            period,
-            deadline: period,
-            phase: 0,
-            priority: 0,
-        };
-        Some(Row {
-            figures,
-            wait: 0,
-            left: 0,
-        })
-    }
 
     // The word of the coming cycle.
     fn word(rows: &mut [Option<Row>; ROWS], window: u8) -> u32 {
@@ -34,10 +21,7 @@ mod tests {
 
     #[test]
     fn none_is_passed_by_a_smaller_one(rt: HostRuntime) {
-        let mut rows = [None; ROWS];
-        rows[0] = fresh(6, 2);
-        rows[1] = fresh(5, 4);
-        rows[2] = fresh(4, 4);
+        let mut rows = table(&[(6, 2), (5, 4), (4, 4)]);
         assert_eq!(rt;
             word(&mut rows, 10),
             1,
@@ -49,10 +33,7 @@ mod tests {
 
     #[test]
     fn one_fills_the_window(rt: HostRuntime) {
-        let mut rows = [None; ROWS];
-        rows[0] = fresh(10, 3);
-        rows[1] = fresh(10, 4);
-        rows[2] = fresh(10, 4);
+        let mut rows = table(&[(10, 3), (10, 4), (10, 4)]);
         assert_eq!(rt; word(&mut rows, 10), 1);
         assert_eq!(rt; word(&mut rows, 10), 2);
         assert_eq!(rt; word(&mut rows, 10), 4);

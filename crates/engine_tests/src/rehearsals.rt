@@ -1,40 +1,13 @@
+use crate::messages::{table, waiting_for};
 use bus::rows::ROWS;
 use engine::rehearsal::rehearse;
 use engine::round::round_of;
-use engine::row::{Figures, Row};
 use engine::verdict::Verdict;
 use orders::selector::Selector;
 
 const RM: Selector = Selector::RateMonotonic;
 
 const EDF: Selector = Selector::EarliestDeadline;
-
-// A message due by its next release, which comes after `wait` cycles.
-fn waiting_for(duration: u8, period: u8, wait: u8) -> Option<Row> {
-    let figures = Figures {
-        duration,
-        period,
-        deadline: period,
-        phase: wait,
-        priority: 0,
-    };
-    Some(Row {
-        figures,
-        wait,
-        left: 0,
-    })
-}
-
-// Messages that all release in the first cycle.
-fn table(messages: &[(u8, u8)]) -> [Option<Row>; ROWS] {
-    let mut rows = [None; ROWS];
-    for (r, (duration, period)) in messages.iter().enumerate() {
-        if r < ROWS {
-            rows[r] = waiting_for(*duration, *period, 0);
-        }
-    }
-    rows
-}
 
 #[test]
 fn a_full_window_by_two_orders(rt: HostRuntime) {
@@ -75,8 +48,8 @@ fn late_in_the_lead_in(rt: HostRuntime) {
 #[test]
 fn seventeen_rows_do_not_settle(rt: HostRuntime) {
     let mut rows = [None; ROWS];
-    for r in 0..16 {
-        rows[r] = waiting_for(6, 16, r as u8);
+    for (wait, row) in (0..16).zip(&mut rows) {
+        *row = waiting_for(6, 16, wait);
     }
     assert_eq!(rt; rehearse(&rows, 10, &EDF), Some(Verdict::Settled));
     rows[16] = waiting_for(6, 16, 0);

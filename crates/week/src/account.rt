@@ -4,14 +4,26 @@ ghost use Rattle.rules.specs.Ledger.{releases};
 
 use bus::rows::RowSet;
 use engine::row::Figures;
+use std::alloc::{AllocError, Global};
+use std::fmt;
 
 #[derive(Clone, Copy)]
 pub struct Account {
-    pub row: u8,
+    row: u8,
     figures: Figures,
     start: u32,
     ended: Option<u32>,
-    pub scheduled: u32,
+    scheduled: u32,
+}
+
+// What an account comes to after some cycles.
+#[derive(Drop)]
+pub struct Balance {
+    row: u8,
+    released: u32,
+    scheduled: u32,
+    waiting: u32,
+    withdrawn: u32,
 }
 
 impl Account {
@@ -29,90 +41,95 @@ impl Account {
         }
     }
 
-    pub fn released(&self, count: u32) -> u32 {
-        self.released_by(self.ended.unwrap_or(count))
+    fn is_running(&self) -> bool {
+        self.ended.is_none()
     }
 
-    // Released and not scheduled: one at most.
-    fn open(&self, count: u32) -> u32 {
-        self.released(count).saturating_sub(self.scheduled)
-    }
-
-    pub fn waiting(&self, count: u32) -> u32 {
-        match self.ended {
-            None => self.open(count),
-            Some(_) => 0,
-        }
-    }
-
-    pub fn withdrawn(&self, count: u32) -> u32 {
-        match self.ended {
-            None => 0,
-            Some(_) => self.open(count),
+    // What was released and not scheduled, one instance at most, waits until the message ends, and is withdrawn then.
+    pub fn balance(&self, count: u32) -> Balance {
+        let released = self.released_by(self.ended.unwrap_or(count));
+        let open = released.saturating_sub(self.scheduled);
+        let (waiting, withdrawn) = if self.is_running() {
+            (open, 0)
+        } else {
+            (0, open)
+        };
+        Balance {
+            row: self.row,
+            released,
+            scheduled: self.scheduled,
+            waiting,
+            withdrawn,
         }
     }
 }
 
-pub const MOST_MESSAGES: usize = 16;
+impl fmt::Display for Balance {
+    fn fmt<W: fmt::Write>(&self, f: &mut fmt::Formatter<W>) -> fmt::Result {
+        let Balance {
+            row,
+            released,
+            scheduled,
+            waiting,
+            withdrawn,
+        } = self;
+        write!(
+            f,
+            "row {row}: {released} released, {scheduled} scheduled, {waiting} waiting, {withdrawn} withdrawn"
+        )
+    }
+}
 
 #[derive(Drop)]
 pub struct Book {
+    // the cycles that were noted
     pub count: u32,
-    accounts: [Option<Account>; MOST_MESSAGES],
+    accounts: Vec<Account>,
 }
 
 impl Book {
-    pub fn new() -> Book {
+    pub fn new(alloc: Global) -> Book {
         Book {
             count: 0,
-            accounts: [None; MOST_MESSAGES],
+            accounts: Vec::new(alloc),
         }
     }
 
-    pub fn begin(&mut self, row: u8, figures: Figures) {
-        for k in 0..MOST_MESSAGES {
-            if self.accounts[k].is_none() {
-                self.accounts[k] = Some(Account {
-                    row,
-                    figures,
-                    start: self.count,
-                    ended: None,
-                    scheduled: 0,
-                });
-                return;
-            }
-        }
+    pub fn begin(&mut self, row: u8, figures: Figures) -> Result<(), AllocError> {
+        self.accounts.push(Account {
+            row,
+            figures,
+            start: self.count,
+            ended: None,
+            scheduled: 0,
+        })?;
+        Ok(())
+    }
+
+    fn running(&mut self, row: u8) -> Option<&mut Account> {
+        self.accounts
+            .iter_mut()
+            .find(|account| account.row == row && account.is_running())
     }
 
     pub fn end(&mut self, row: u8) {
-        for k in 0..MOST_MESSAGES {
-            if let Some(account) = self.accounts[k] {
-                if account.row == row && account.ended.is_none() {
-                    self.accounts[k] = Some(Account {
-                        ended: Some(self.count),
-                        ..account
-                    });
-                }
-            }
+        let count = self.count;
+        if let Some(account) = self.running(row) {
+            account.ended = Some(count);
         }
     }
 
     // One cycle with its schedule.
     pub fn note(&mut self, schedule: RowSet) {
         self.count = self.count.saturating_add(1);
-        for k in 0..MOST_MESSAGES {
-            if let Some(account) = self.accounts[k] {
-                if account.ended.is_none() && schedule.contains(account.row) {
-                    self.accounts[k] = Some(Account {
-                        scheduled: account.scheduled.saturating_add(1),
-                        ..account
-                    });
-                }
+        for account in &mut self.accounts {
+            if account.is_running() && schedule.contains(account.row) {
+                account.scheduled = account.scheduled.saturating_add(1);
             }
         }
     }
 
-    pub fn account(&self, k: usize) -> Option<Account> {
-        self.accounts.get(k).copied().flatten()
+    pub fn accounts(&self) -> &[Account] {
+        self.accounts.as_slice()
     }
 }

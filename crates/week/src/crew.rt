@@ -5,6 +5,7 @@ use engine::row::Figures;
 use ftt::master::Master;
 use ftt::watch::IdleWatch;
 use orders::selector::Selector;
+use std::alloc::Global;
 use std::io;
 
 #[derive(Drop)]
@@ -23,19 +24,19 @@ fn tell(rt: &HostRuntime, what: &str, answer: Result<(), Refusal>) -> io::Result
 }
 
 impl Crew {
-    pub fn new() -> Crew {
+    pub fn new(alloc: Global) -> Crew {
         let (master, watch) = Master::new(Selector::RateMonotonic);
         Crew {
             master,
             watch,
-            book: Book::new(),
+            book: Book::new(alloc),
         }
     }
 
     pub fn add(&mut self, rt: &HostRuntime, row: u8, figures: Figures) -> io::Result<()> {
         let answer = self.master.add(&self.watch, row, figures);
         if answer.is_ok() {
-            self.book.begin(row, figures);
+            self.book.begin(row, figures)?;
         }
         tell(rt, "add", answer)
     }
@@ -44,7 +45,7 @@ impl Crew {
         let answer = self.master.alter(&self.watch, row, figures);
         if answer.is_ok() {
             self.book.end(row);
-            self.book.begin(row, figures);
+            self.book.begin(row, figures)?;
         }
         tell(rt, "alter", answer)
     }
@@ -66,6 +67,7 @@ impl Crew {
     }
 
     // Runs cycles; the triggers of the first `lost` of them are reported lost, the others sent.
+    // The loop is written out, since the misuses that the build has to refuse are edits of its lines.
     pub fn run(self, cycles: u32, lost: u32) -> Crew {
         let Crew {
             mut master,

@@ -4,7 +4,7 @@
 mod account;
 mod crew;
 
-use account::{Book, MOST_MESSAGES};
+use account::Book;
 use crew::Crew;
 use engine::row::Figures;
 use orders::selector::Selector;
@@ -48,25 +48,16 @@ fn thursday(rt: &HostRuntime, crew: &mut Crew) -> io::Result<()> {
     crew.window(rt, 60)
 }
 
-// Each message with its row: released, scheduled, waiting, withdrawn.
 fn friday(rt: &HostRuntime, book: &Book) -> io::Result<()> {
-    for k in 0..MOST_MESSAGES {
-        if let Some(account) = book.account(k) {
-            let row = account.row;
-            let released = account.released(book.count);
-            let scheduled = account.scheduled;
-            let waiting = account.waiting(book.count);
-            let withdrawn = account.withdrawn(book.count);
-            println!(rt;
-                "  row {row}: {released} released, {scheduled} scheduled, {waiting} waiting, {withdrawn} withdrawn"
-            )?;
-        }
+    for account in book.accounts() {
+        let balance = account.balance(book.count);
+        println!(rt; "  {balance}")?;
     }
     Ok(())
 }
 
 fn main(rt: HostRuntime) -> io::Result<()> {
-    let mut crew = Crew::new();
+    let mut crew = Crew::new(rt.alloc());
     rt.println("Monday")?;
     monday(&rt, &mut crew)?;
     crew = crew.run(6, 0);

@@ -1,6 +1,6 @@
 pub mod Calm
 pub mod Closing
-pub mod Columns
+pub mod Standing
 pub mod Firsts
 pub mod Fits
 pub mod Gathering
@@ -8,8 +8,8 @@ pub mod Lighter
 pub mod Lines
 pub mod Loads
 pub mod Lowest
+pub mod Made
 pub mod Multiples
-pub mod Openings
 pub mod Passes
 pub mod Rehearsed
 pub mod Schedule

@@ -7,7 +7,7 @@ ghost use Rattle.engine.specs.Rehearsal.{every, first_from, divided_by, round, l
 ghost use Rattle.engine.specs.Held.{slots};
 ghost use Rattle.engine.specs.Waiting.{waits_at, waiting_word};
 
-use crate::counters::wait_of;
+use crate::columns::wait_of;
 use crate::row::Row;
 use bus::rows::{ROWS, RowSet};
 use orders::instance::Cycles;

@@ -3,7 +3,7 @@
 // A number of elementary cycles.
 pub type Cycles = u8;
 
-#[derive(Clone, Copy)]
+#[derive(Clone, Copy, PartialEq, Eq, Debug, Default)]
 pub struct Instance {
     pub row: u8,
     pub duration: u8,

@@ -5,12 +5,21 @@ ghost use Rattle.engine.specs.Cycle.{cycle, late_row, load, lowest, release, wai
 ghost use Rattle.engine.specs.Load.{scheduled_units};
 ghost use Rattle.engine.specs.Held.{slots, rules_of, CountedIn, Demands, within, closed_by, late_by, word_below};
 
-use crate::counters::NO_INSTANCE;
 use crate::cycle::Outcome;
 use crate::row::Row;
 use bus::rows::{ROWS, RowSet};
 use orders::instance::Instance;
 use orders::policy::Policy;
+
+// Fills the places that no instance has taken.
+const NO_INSTANCE: Instance = Instance {
+    row: 0,
+    duration: 0,
+    period: 0,
+    deadline: 0,
+    priority: 0,
+    left: 0,
+};
 
 // Runs one cycle on the rows.
 pub fn run_cycle<P: Policy>(rows: &mut [Option<Row>; ROWS], window: u8, policy: &P) -> Outcome

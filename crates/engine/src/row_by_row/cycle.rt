@@ -28,10 +28,8 @@ pub fn run_cycle<P: Policy>(rows: &mut [Option<Row>; ROWS], window: u8, policy: 
 fn release(rows: &mut [Option<Row>; ROWS])
     ensures { slots rows.new ≡ release (slots rows.old) }
 {
-    for r in 0..ROWS {
-        if let Some(row) = rows[r] {
-            rows[r] = Some(row.release());
-        }
+    for slot in rows.iter_mut() {
+        *slot = slot.map(Row::release);
     }
 }
 
@@ -57,10 +55,8 @@ fn demands<P: Policy>(rows: &[Option<Row>; ROWS], policy: &P) -> [u16; ROWS]
 fn waiting_instance(slot: Option<Row>, row: u8) -> Option<Instance>
     ensures { option_to_list result ≡ waiter row slot }
 {
-    match slot {
-        Some(used) if used.waits() => Some(used.instance(row)),
-        _ => None,
-    }
+    slot.filter(|used| used.waits())
+        .map(|used| used.instance(row))
 }
 
 // Counts a further instance in the demands of those that it goes before, and answers its own among them.

@@ -1,19 +1,28 @@
-use Rattle.std.proofs.Common.{◌≡◌, ℕ, ◌+◌, max, refl, ap, ◌∙◌, add-one, arith}
-use Rattle.engine.specs.Cycle.{Slots}
+use Rattle.std.proofs.Common.{◌≡◌, ℕ, zero, suc, ◌≤◌, List, Option, None, max, length, get_or, take, refl, sym, ap, ◌∙◌, arith, rules, tests}
+use Rattle.std.specs.List.{fold}
+use Rattle.std.specs.Option.{unwrap_or}
+use Rattle.std.proofs.lemmas.Iterator.{YieldsList-from_slice, YieldsList-from_map}
+use Rattle.std.proofs.lemmas.Iterator.Consumers.{reduce_from_yields_List}
+use Rattle.std.proofs.lemmas.List.Folds.{max_of_map}
+use Rattle.std.proofs.lemmas.List.Sums.{fold-append}
+use Rattle.std.proofs.lemmas.List.{take_all}
+use Rattle.std.proofs.Math.Seq.{take-suc}
+use Rattle.engine.specs.declared.row.Row.{Row}
 use Rattle.engine.specs.Rehearsal.{lead_in, wait_of}
 use Rattle.engine.specs.Held.{slots}
 use Rattle.engine.proofs.round.lead_in.Goals as goal
 
-pub loop-r-init : goal.loop-r-init
-unfolding lead_in
-loop-r-init c = refl
+abbrev greatest : List (Option Row) → ℕ
+greatest = fold (λ a slot. max a (wait_of slot)) 0
 
-more : (t : Slots) (r : ℕ) → lead_in (r + 1) t ≡ max (lead_in r t) (wait_of (t r))
+first : (n : ℕ) (rows : List (Option Row)) → n ≤ length rows → greatest (take n rows) ≡ lead_in n (slots rows)
 unfolding lead_in
-more t r = ap (λ n. lead_in n t) (add-one r)
-
-pub loop-r-preserved : goal.loop-r-preserved
-loop-r-preserved c = omega (arith, more (slots c.args.rows.now) c.loop-r.r)
+first zero rows h = refl
+first (suc n) rows h = rw (take-suc rows n None, fold-append) (ap (λ m. max m (wait_of (get_or rows n None))) (first n rows (omega arith)))
 
 pub returns : goal.returns
-returns c = c.loop-r.invariant ∙ ap (λ n. lead_in n (slots c.args.rows.now)) (omega arith)
+returns c =
+    let rows = c.args.rows.now in
+    c.unwrap_or.ensures
+    ∙ ap (λ o. unwrap_or o 0) (reduce_from_yields_List _ c.map.result _ c.max.ensures.ran (YieldsList-from_map _ wait_of (YieldsList-from_slice rows cc) c.map.ensures.closure (λ x b q k. search (rules, tests))))
+    ∙ max_of_map wait_of rows ∙ ap greatest (sym (take_all 32 rows (omega arith))) ∙ first 32 rows (omega arith)

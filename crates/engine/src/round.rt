@@ -58,9 +58,7 @@ pub fn lead_in(rows: &[Option<Row>; ROWS]) -> Cycles
     ensures { result ≡ lead_in 32 (slots rows.now) }
 {
     rows.iter()
-        .map(|slot| wait_of(*slot))
-        .max()
-        .unwrap_or(0)
+        .fold(0, |greatest, slot| greatest.max(wait_of(*slot)))
 }
 
 // The rows that wait.

@@ -28,9 +28,7 @@ pub fn run_cycle<P: Policy>(rows: &mut [Option<Row>; ROWS], window: u8, policy: 
 fn release(rows: &mut [Option<Row>; ROWS])
     ensures { slots rows.new ≡ release (slots rows.old) }
 {
-    for slot in rows.iter_mut() {
-        *slot = slot.map(Row::release);
-    }
+    *rows = rows.map(|slot| slot.map(Row::release));
 }
 
 // For each waiting instance, in the order of the rows, its duration and those of all that go before it.

@@ -1,9 +1,5 @@
-use Rattle.std.proofs.Common.{◌≡◌, ℕ, zero, suc, ◌≤◌, List, Option, None, max, length, get_or, take, refl, sym, ap, ◌∙◌, arith, rules, tests}
+use Rattle.std.proofs.Common.{◌≡◌, ℕ, zero, suc, ◌≤◌, List, Option, None, max, length, get_or, take, refl, sym, ap, ◌∙◌, arith, rules}
 use Rattle.std.specs.List.{fold}
-use Rattle.std.specs.Option.{unwrap_or}
-use Rattle.std.proofs.lemmas.Iterator.{YieldsList-from_slice, YieldsList-from_map}
-use Rattle.std.proofs.lemmas.Iterator.Consumers.{reduce_from_yields_List}
-use Rattle.std.proofs.lemmas.List.Folds.{max_of_map}
 use Rattle.std.proofs.lemmas.List.Sums.{fold-append}
 use Rattle.std.proofs.lemmas.List.{take_all}
 use Rattle.std.proofs.Math.Seq.{take-suc}
@@ -23,6 +19,5 @@ first (suc n) rows h = rw (take-suc rows n None, fold-append) (ap (λ m. max m (
 pub returns : goal.returns
 returns c =
     let rows = c.args.rows.now in
-    c.unwrap_or.ensures
-    ∙ ap (λ o. unwrap_or o 0) (reduce_from_yields_List _ c.map.result _ c.max.ensures.ran (YieldsList-from_map _ wait_of (YieldsList-from_slice rows cc) c.map.ensures.closure (λ x b q k. search (rules, tests))))
-    ∙ max_of_map wait_of rows ∙ ap greatest (sym (take_all 32 rows (omega arith))) ∙ first 32 rows (omega arith)
+    let whole : c.fold.result ≡ greatest rows = search rules in
+    whole ∙ ap greatest (sym (take_all 32 rows (omega arith))) ∙ first 32 rows (omega arith)

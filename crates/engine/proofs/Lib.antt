@@ -1,5 +1,4 @@
 pub mod Calm
-pub mod Closing
 pub mod Columns
 pub mod Firsts
 pub mod Fits

@@ -68,9 +68,7 @@ pub fn waiting(rows: &[Option<Row>; ROWS]) -> RowSet
 {
     let mut word = 0;
     for (r, slot) in rows.iter().enumerate() {
-        if row_waits(*slot) {
-            word |= 1 << r;
-        }
+        word |= u32::from(row_waits(*slot)) << r;
     }
     RowSet { word }
 }

@@ -1,11 +1,8 @@
 -- What the passes work out is the cycle. Assumes nothing.
-use Rattle.std.proofs.Common.{◌≡◌, ℕ, ◌<◌, ◌≤◌, Bool, true, false, cond, ◌&&◌, leb, List, [], ◌∷◌, length, get_or, Some, None, Option, sym, refl, ap, ◌∙◌, ap₂, inl, inr}
-use mathlib.Core.Path.{fun_ext}
-use Rattle.std.proofs.lemmas.Bool.{cases_lt}
-use Rattle.engine.specs.declared.row.Row.{Row}
+use Rattle.std.proofs.Common.{◌≡◌, ℕ, Bool, false, ◌&&◌, None, Option, ap, ◌∙◌, ap₂}
 use Rattle.engine.specs.Rows.{instance_of, waits}
 use Rattle.engine.specs.Cycle.{Slots, Rules, used_and, release, waiters, fits, scheduled, cycle, late, late_row, lowest, word}
-use Rattle.engine.specs.Held.{demand, Demands, within, closed_by, late_by, word_below}
+use Rattle.engine.specs.Held.{closed_by, late_by, word_below}
 
 pub none_scheduled : (rules : Rules) (t : Slots) (r : ℕ) → t r ≡ None → scheduled rules t r ≡ false
 none_scheduled rules t r e = ap (used_and (λ row. waits row && fits rules.goes rules.window (waiters rules.rows t) (instance_of r row))) e

@@ -1,12 +1,12 @@
 -- The word of the waiting rows, and the comparison of two such words. Assumes nothing.
-use Rattle.std.proofs.Common.{◌≡◌, ℕ, zero, suc, ◌+◌, ◌*◌, ◌/◌, ◌%◌, ◌^◌, ◌<◌, ◌≤◌, Bool, true, false, not, ◌&&◌, ◌||◌, eqb, List, map, length, get_or, take, sym, refl, ap, ◌∙◌, subst, ap₂, ⊎_elim, arith}
+use Rattle.std.proofs.Common.{◌≡◌, ℕ, zero, suc, ◌/◌, ◌%◌, ◌^◌, ◌<◌, Bool, true, false, not, ◌&&◌, ◌||◌, eqb, map, length, get_or, sym, refl, ap, ◌∙◌, subst, ap₂, ⊎_elim, arith}
 use native.Mathlib.Nat.{pow-succ'}
 use lib.Bits.{bit_and, bit_or, and_lt, and_shr, and_mod, or_shr, or_mod}
 use Rattle.std.specs.List.{range_with_len}
-use Rattle.std.proofs.lemmas.List.FromFn.{length-map-range_with_len, get_or-map-range_with_len, take-map-range_with_len}
+use Rattle.std.proofs.lemmas.List.FromFn.{length-map-range_with_len, get_or-map-range_with_len}
 use Rattle.std.proofs.lemmas.Bool.{cases_eq, eq-eqb, ne_eqb, and_from, both_ways}
 use Rattle.bus.specs.Rows.{member, members, word_of}
-use Rattle.bus.proofs.Words.{members_word_of, get_or_members, word_of_members, members_by_rows, word_of_set, word_of_left, word_of_below, length_members, member_suc, no_member_past}
+use Rattle.bus.proofs.Words.{members_word_of, get_or_members, word_of_members, members_by_rows, word_of_below, length_members, member_suc, no_member_past}
 use Rattle.engine.specs.Cycle.{Slots}
 use Rattle.engine.specs.Rehearsal.{every, settled}
 use Rattle.engine.specs.Held.{word_below}

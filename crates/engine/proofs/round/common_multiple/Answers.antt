@@ -32,9 +32,9 @@ module _ (a b step other : ℕ) (larger : step ≡ max a b) (smaller : other ≡
     stands j h = from j ∙ read (source (j * step)) _ (there (j * step) (omega (arith, mul-le-mul_right {m = suc j} {n = len} step h)))
 
     searched : (Keep : Type 0) (Yes No : ℕ → Type 0) (r : Option ℕ)
-      → MatchOption r ((whole ≡ true) × (Keep → (k : ℕ) → IfSome (at k) No)) (λ m. (i : ℕ) × (len ≡ i + 1) × (at i ≡ Some m) × (Keep → Yes m × ((k : ℕ) → k < i → IsSomeAnd (at k) No)))
-      → Keep → ((x : ℕ) → Yes x → x % other ≡ 0) → ((x : ℕ) → No x → x % other ≡ 0 → ⊥)
-      → r ≡ first_from 5040 1 (both_divide a b)
+        → MatchOption r ((whole ≡ true) × (Keep → (k : ℕ) → IfSome (at k) No)) (λ m. (i : ℕ) × (len ≡ i + 1) × (at i ≡ Some m) × (Keep → Yes m × ((k : ℕ) → k < i → IsSomeAnd (at k) No)))
+        → Keep → ((x : ℕ) → Yes x → x % other ≡ 0) → ((x : ℕ) → No x → x % other ≡ 0 → ⊥)
+        → r ≡ first_from 5040 1 (both_divide a b)
     searched Keep Yes No None found keep does fails =
         least_missed 5040 a b step other larger smaller some len (omega (arith, end found.0)) (λ j h. fails _ (if_some No (at j) _ (stands j h) (found.1 keep j)))
     searched Keep Yes No (Some m) found keep does fails =

@@ -1,6 +1,5 @@
 use Rattle.std.proofs.Common.{◌≡◌, ◌*◌, ◌%◌, ◌^◌, sym, ap, ◌∙◌, ap₂, arith}
 use lib.Bits.{bit_or}
-use mir.Val.{bool_byte}
 use Rattle.bus.specs.Rows.{member}
 use Rattle.engine.specs.Held.{slots, word_below}
 use Rattle.engine.specs.Waiting.{waits_at, waiting_word}

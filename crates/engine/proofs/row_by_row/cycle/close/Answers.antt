@@ -1,4 +1,4 @@
-use Rattle.std.proofs.Common.{◌≡◌, ◌+◌, List, Option, Some, None, refl, sym, subst, ap, ◌∙◌, arith}
+use Rattle.std.proofs.Common.{◌≡◌, ◌+◌, List, Option, None, refl, sym, subst, ap, ◌∙◌, arith}
 use Rattle.std.specs.Option.{option_or}
 use Rattle.std.specs.Bool.{then_some}
 use Rattle.std.proofs.lemmas.List.{set-get_or}
@@ -28,7 +28,7 @@ loop-r-preserved c =
           let row = w.in-Some.row in
           let here : misses w.contains-scheduled.result row ≡ late r = ap (λ b. misses b row) w.contains-scheduled.ensures ∙ ap (used_and (misses (by r))) (sym w.in-Some.is ∙ as_was) in (
             w.late-is ∙ w.or-late.ensures ∙ ap (option_or c.loop-r.late) (w.then_some.ensures ∙ ap (λ b. then_some b r) (w.misses.ensures ∙ here))
-            ∙ ap (λ o. option_or o (then_some (late r) r)) c.loop-r.invariant.0 ∙ lowest_or late r (late r) refl,
+                ∙ ap (λ o. option_or o (then_some (late r) r)) c.loop-r.invariant.0 ∙ lowest_or late r (late r) refl,
             subst Done (sym w.rows-is) (changed_used _ _ c.loop-r.rows r so_far row _ (omega arith) w.in-Some.is (w.close.ensures ∙ ap (λ b. closed b row) w.contains-scheduled.ensures)),
           )
       | in_default w ↦ (

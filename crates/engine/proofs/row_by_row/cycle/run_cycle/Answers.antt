@@ -1,11 +1,10 @@
-use Rattle.std.proofs.Common.{◌≡◌, ◌<◌, ◌≤◌, Bool, false, ℕ, None, inl, inr, refl, sym, ap, ◌∙◌, arith}
+use Rattle.std.proofs.Common.{◌≡◌, ◌≤◌, Bool, false, ℕ, None, inl, inr, refl, sym, ap, ◌∙◌, arith}
 use Rattle.std.proofs.Math.Path.{fun_ext}
 use Rattle.std.proofs.lemmas.List.{get_or_past}
 use Rattle.std.proofs.lemmas.Bool.{cases_lt}
 use Rattle.bus.specs.Rows.{member}
 use Rattle.bus.proofs.Words.{no_member_past}
-use Rattle.engine.specs.Rows.{waits}
-use Rattle.engine.specs.Cycle.{scheduled, used_and}
+use Rattle.engine.specs.Cycle.{scheduled}
 use Rattle.engine.specs.Held.{slots, rules_of, word_below}
 use Rattle.engine.proofs.WaitingRows.{member_word, word_fits}
 use Rattle.engine.proofs.Fits.{none_scheduled, closed_is_cycle, word_is_schedule, lowest_is_late}

@@ -1,11 +1,7 @@
-use Rattle.std.proofs.Common.{◌≡◌, ◌*◌, ◌%◌, ◌^◌, Bool, true, false, cond, ◌&&◌, leb, [], ◌∷◌, Some, None, Option, refl, sym, ap, ◌∙◌, ap₂, arith}
+use Rattle.std.proofs.Common.{◌≡◌, ◌*◌, ◌%◌, ◌^◌, leb, sym, ◌∙◌, ap₂, arith}
 use lib.Bits.{bit_or}
-use mir.Val.{bool_byte}
-use Rattle.orders.specs.declared.instance.Instance.{Instance}
-use Rattle.engine.specs.declared.row.Row.{Row}
-use Rattle.engine.specs.Rows.{instance_of, waits}
 use Rattle.engine.specs.Cycle.{scheduled, fits, waiters}
-use Rattle.engine.specs.Held.{slots, rules_of, word_below}
+use Rattle.engine.specs.Held.{slots, rules_of}
 use Rattle.engine.proofs.Waiters.{waiter_passes, no_waiter_passes}
 use Rattle.engine.proofs.Schedule.{word_below_none, word_below_stay, word_below_or}
 use Rattle.engine.proofs.row_by_row.cycle.schedule.Goals as goal

@@ -24,9 +24,13 @@ fn common_multiple(a: u16, b: u16) -> Option<u16>
     }
     let step = a.max(b);
     let other = a.min(b);
-    (step..=MOST_CYCLES_IN_ROUND)
-        .step_by(usize::from(step))
-        .find(|multiple| multiple % other == 0)
+    for times in 1..MOST_CYCLES_IN_ROUND / step + 1 {
+        let multiple = times * step;
+        if multiple % other == 0 {
+            return Some(multiple);
+        }
+    }
+    None
 }
 
 // The row's period; for an empty row 1, which divides every number.

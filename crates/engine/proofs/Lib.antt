@@ -1,6 +1,4 @@
 pub mod Calm
-pub mod Closing
-pub mod Standing
 pub mod Firsts
 pub mod Fits
 pub mod Gathering
@@ -14,6 +12,7 @@ pub mod Passes
 pub mod Rehearsed
 pub mod Schedule
 pub mod Serving
+pub mod Standing
 pub mod Stretches
 pub mod Tests
 pub mod Turns

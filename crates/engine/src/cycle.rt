@@ -29,7 +29,7 @@ pub fn run_cycle<P: Policy>(rows: &mut [Option<Row>; ROWS], window: u8, policy: 
 {
     let mut columns = Columns::of(rows);
     let outcome = columns.run(&Rules { window, policy });
-    *rows = columns.counted(rows);
+    columns.write_back(rows);
     outcome
 }
 

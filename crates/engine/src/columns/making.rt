@@ -1,4 +1,4 @@
-// The columns of a table, and the table with their counters.
+// The columns of a table, and their counters written back.
 ghost use Rattle.std.specs.Prelude.{◌≡◌, ℕ, ◌<◌, map, slice_index, slice_index_or};
 ghost use Rattle.engine.specs.Rehearsal.{wait_of};
 ghost use Rattle.engine.specs.Held.{slots, no_instance, kind_of, left_of, shows, counted};
@@ -82,16 +82,18 @@ impl Columns {
         }
     }
 
-    // The table with these counters.
-    pub(crate) fn counted(&self, rows: &[Option<Row>; ROWS]) -> [Option<Row>; ROWS]
-        ensures { slots result ≡ counted self.now.waits self.now.lefts (slots rows.now) }
+    // Writes the counters into the rows that are used.
+    pub(crate) fn write_back(&self, rows: &mut [Option<Row>; ROWS])
+        ensures { slots rows.new ≡ counted self.now.waits self.now.lefts (slots rows.old) }
     {
-        array::from_fn(|r| {
-            rows[r].map(|row| Row {
-                wait: self.waits[r],
-                left: self.lefts[r],
-                ..row
-            })
-        })
+        for (r, slot) in rows.iter_mut().enumerate() {
+            if let Some(row) = *slot {
+                *slot = Some(Row {
+                    wait: self.waits[r],
+                    left: self.lefts[r],
+                    ..row
+                });
+            }
+        }
     }
 }

@@ -6,7 +6,7 @@ use Rattle.engine.proofs.cycle.run_cycle.Goals as goal
 
 pub returns-clause-after : goal.returns-clause-after
 returns-clause-after g c =
-    c.counted.ensures
+    c.write_back.ensures
     ∙ counted_is_cycle (rules_of (g.P.Policy.goes c.args.policy.now) c.args.window) c.args.rows.now c.run-outcome.new.self.kinds _ _ c.told-rows (c.run-outcome.ensures.after (slots c.args.rows.now) c.of-columns.ensures)
 
 pub returns-clause-within : goal.returns-clause-within

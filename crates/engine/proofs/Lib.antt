@@ -1,6 +1,4 @@
 pub mod Calm
-pub mod Closing
-pub mod Columns
 pub mod Firsts
 pub mod Fits
 pub mod Gathering
@@ -8,12 +6,13 @@ pub mod Lighter
 pub mod Lines
 pub mod Loads
 pub mod Lowest
+pub mod Made
 pub mod Multiples
-pub mod Openings
 pub mod Passes
 pub mod Rehearsed
 pub mod Schedule
 pub mod Serving
+pub mod Standing
 pub mod Stretches
 pub mod Tests
 pub mod Turns

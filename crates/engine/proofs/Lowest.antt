@@ -1,11 +1,13 @@
 -- The lowest row of a word, and the word without it. Assumes nothing.
-use Rattle.std.proofs.Common.{◌≡◌, ℕ, zero, suc, ◌+◌, ◌-◌, ◌*◌, ◌/◌, ◌%◌, ◌^◌, ◌<◌, ◌≤◌, min, Bool, true, false, not, ◌&&◌, eqb, leb, ◌⊎◌, sym, refl, ap, ◌∙◌, subst, ap₂, inl, inr, arith}
+use Rattle.std.proofs.Common.{◌≡◌, ℕ, zero, suc, ◌+◌, ◌-◌, ◌*◌, ◌/◌, ◌%◌, ◌^◌, ◌<◌, ◌≤◌, min, Bool, true, false, cond, not, ◌&&◌, eqb, leb, ◌⊎◌, Some, None, sym, refl, ap, ◌∙◌, subst, ap₂, inl, inr, arith}
 use native.Mathlib.Nat.{pow-succ'}
 use lib.Bits.{bit_and, and_step, and_self}
 use lib.Count.{count_trailing_zeros, under}
 use Rattle.std.proofs.lemmas.Bool.{eq-eqb, ne_eqb, and_right, and_left, and_parts, leb-true, le-leb, lt-leb, cases_eq, cases_lt, cases_order, false≢true}
 use Rattle.bus.specs.Rows.{member}
 use Rattle.bus.proofs.Words.{member_suc, no_member_past}
+use Rattle.engine.specs.Cycle.{lowest}
+use Rattle.engine.proofs.Tests.{lowest_found, lowest_nowhere}
 use Rattle.engine.proofs.WaitingRows.{eqb_suc}
 
 -- s is the lowest row of a word, and the code takes it out
@@ -138,3 +140,26 @@ pub skipped : (P : ℕ → Type 0) (test : ℕ → Bool) → ((k : ℕ) → k < 
 skipped P test next zero r s e few none p = subst P (let same : r ≡ s = omega arith in same) p
 skipped P test next (suc d) r s e few none p =
     skipped P test next d (r + 1) s (omega arith) few (λ k h b. none k (omega arith) b) (next r (omega arith) (none r (omega arith) (omega arith)) p)
+
+-- the lowest row that passes a test, from the word of those that pass
+pub lowest_of_word : (test : ℕ → Bool) (w : ℕ) → w < 2 ^ 32 → ((k : ℕ) → k < 32 → member w k ≡ test k)
+    → lowest 32 test ≡ cond (eqb w 0) None (Some (count_trailing_zeros 32 w))
+lowest_of_word test w few each =
+    elim (cases_eq w 0) [
+      | inl none ↦
+          lowest_nowhere 32 test (λ k h. sym (each k h) ∙ ap (λ v. member v k) none ∙ no_member_past 0 0 k (omega arith) (omega arith))
+          ∙ sym (ap (λ b. cond b None (Some (count_trailing_zeros 32 w))) (eq-eqb w 0 none))
+      | inr some ↦
+          let low = lowest_row 32 w (omega arith) few in
+          lowest_found 32 (count_trailing_zeros 32 w) test
+          (lowest_nowhere (count_trailing_zeros 32 w) test (λ k h. sym (each k (omega (arith, in_word w few low.is))) ∙ low.none k h))
+          (sym (each (count_trailing_zeros 32 w) (in_word w few low.is)) ∙ low.is) (in_word w few low.is)
+          ∙ sym (ap (λ b. cond b None (Some (count_trailing_zeros 32 w))) (ne_eqb w 0 some))
+    ]
+  where
+    in_word : (w : ℕ) → w < 2 ^ 32 → member w (count_trailing_zeros 32 w) ≡ true → count_trailing_zeros 32 w < 32
+    in_word w few is =
+        elim (cases_lt (count_trailing_zeros 32 w) 32) [
+          | inl yes_in ↦ yes_in
+          | inr past ↦ absurd (false≢true (sym (no_member_past w 32 (count_trailing_zeros 32 w) few past) ∙ is))
+        ]

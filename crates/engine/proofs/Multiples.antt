@@ -1,6 +1,7 @@
 -- Common multiples: the least of them divides them all. Assumes nothing.
-use Rattle.std.proofs.Common.{◌≡◌, ℕ, zero, suc, ◌+◌, ◌-◌, ◌%◌, ◌<◌, ◌≤◌, min, max, Bool, true, false, ◌&&◌, eqb, ◌⊎◌, Some, None, Option, sym, refl, ap, ◌∙◌, ap₂, inl, inr, ⊎_elim, add-zero, mod-lt, mod-eq_of_lt, arith}
-use native.Mathlib.Nat.{zero-mod, mod-zero, mod_self, add-mod_right, mod-add-mod, dvd_of_mod-eq-zero, mod-mod_of_dvd}
+use Rattle.std.proofs.Common.{◌≡◌, ℕ, zero, suc, ◌+◌, ◌*◌, ◌/◌, ◌%◌, ◌<◌, ◌≤◌, min, max, Bool, true, false, ◌&&◌, eqb, ◌⊎◌, Some, None, Option, sym, refl, ap, ◌∙◌, ap₂, inl, inr, ⊎_elim, add-zero, mod-lt, arith}
+use native.Mathlib.Nat.{mul-le-mul_right, zero-mod, mod-zero, add-mul-mod_self_right, mod_self, dvd_of_mod-eq-zero, mod-mod_of_dvd}
+use Rattle.std.proofs.Math.Bool.{and_comm}
 use Rattle.std.proofs.lemmas.Bool.{cases_eq, cases_lt, eq-eqb, ne_eqb, eqb-true, and_parts, and_from, and_left, and_right}
 use Rattle.engine.specs.declared.row.Row.{Row}
 use Rattle.engine.specs.Cycle.{Slots}
@@ -14,12 +15,6 @@ both_divide a b m = eqb (m % a) 0 && eqb (m % b) 0
 zero_divides_none : (k : ℕ) → 1 ≤ k → eqb (k % 0) 0 ≡ false
 zero_divides_none k h = ne_eqb (k % 0) 0 (λ e. omega (arith, mod-zero k))
 
-and_swap : (x y : Bool) → (x && y) ≡ (y && x)
-and_swap true true = refl
-and_swap true false = refl
-and_swap false true = refl
-and_swap false false = refl
-
 -- the larger of the two and the smaller of them
 pub both_sorted : (a b m : ℕ) → both_divide (max a b) (min a b) m ≡ both_divide a b m
 both_sorted a b m =
@@ -27,69 +22,46 @@ both_sorted a b m =
     (λ (less : a < b).
     let larger : max a b ≡ b = omega arith in
     let smaller : min a b ≡ a = omega arith in
-    ap₂ (λ x y. both_divide x y m) larger smaller ∙ and_swap (eqb (m % b) 0) (eqb (m % a) 0))
+    ap₂ (λ x y. both_divide x y m) larger smaller ∙ and_comm (eqb (m % b) 0) (eqb (m % a) 0))
     (λ (more : b ≤ a).
     let larger : max a b ≡ a = omega arith in
     let smaller : min a b ≡ b = omega arith in
     ap₂ (λ x y. both_divide x y m) larger smaller)
     (cases_lt a b)
 
--- no number between two neighbouring multiples is one
-between : (step m k : ℕ) → m % step ≡ 0 → m < k → k < m + step → eqb (k % step) 0 ≡ false
-between step m k whole low high =
-    let split : k ≡ m + (k - m) = omega arith in
-    let rest : (k - m) % step ≡ k - m = mod-eq_of_lt {n = k - m} {m = step} (omega arith) in
-    let left : k % step ≡ k - m =
-    ap (λ n. n % step) split ∙ sym (mod-add-mod m step (k - m)) ∙ ap (λ n. (n + (k - m)) % step) whole ∙ ap (λ n. n % step) (omega arith) ∙ rest in
-    ne_eqb (k % step) 0 (λ e. omega arith)
-
--- the multiples of a step up to m, which are not common multiples with another number
-pub record Passed (step other m : ℕ) : Type 0 where
-  pub some : 0 < m
-  pub whole : m % step ≡ 0
-  pub none : (k : ℕ) → 1 ≤ k → k < m → both_divide step other k ≡ false
-
-pub passed_none : (step other : ℕ) → 0 < step → Passed step other step
-passed_none step other pos =
-    record {
-      some = pos;
-      whole = mod_self step;
-      none = λ k l h. and_left (eqb (k % step) 0) (eqb (k % other) 0) (between step 0 k (zero-mod step) l (omega arith));
-    }
-
-pub passed_more : (step other m : ℕ) → 0 < step → Passed step other m → (m % other ≡ 0 → ⊥) → Passed step other (m + step)
-passed_more step other m pos p fails =
-    record {
-      some = omega (arith, p.some);
-      whole = add-mod_right m step ∙ p.whole;
-      none = λ k l h. ⊎_elim
-          (λ (low : k < m). p.none k l low)
-          (λ (rest : m ≤ k). ⊎_elim
-          (λ (same : k ≡ m). and_right (eqb (k % step) 0) (eqb (k % other) 0) (ap (λ n. eqb (n % other) 0) same ∙ ne_eqb (m % other) 0 fails))
-          (λ (apart : k ≡ m → ⊥). and_left (eqb (k % step) 0) (eqb (k % other) 0) (between step m k p.whole (omega arith) h))
-          (cases_eq k m))
-          (cases_lt k m);
-    }
-
 -- the search through the multiples of the larger ends at the least common one
-module _ (limit a b step other : ℕ) (larger : step ≡ max a b) (smaller : other ≡ min a b) where
+module _ (limit a b step other : ℕ) (larger : step ≡ max a b) (smaller : other ≡ min a b) (some : 0 < step) where
+  abbrev pub Fail : ℕ → Type 0
+  Fail n = (j : ℕ) → j < n → (step + j * step) % other ≡ 0 → ⊥
+
+  -- up to the n-th multiple there is no common one
+  none_yet : (n : ℕ) → Fail n → (k : ℕ) → 1 ≤ k → k < step + n * step → both_divide step other k ≡ false
+  none_yet n fail k l h =
+      ⊎_elim (λ whole. and_right _ _ (multiple whole (k / step) refl)) (λ rest. and_left _ _ (ne_eqb (k % step) 0 rest)) (cases_eq (k % step) 0)
+    where
+      multiple : k % step ≡ 0 → (q : ℕ) → k / step ≡ q → eqb (k % other) 0 ≡ false
+      multiple whole zero e = absurd (omega (arith, ap (λ n. step * n) e))
+      multiple whole (suc j) e =
+          let is : step + j * step ≡ k = omega (arith, ap (λ n. step * n) e) in
+          ⊎_elim (λ (below : j < n). ne_eqb _ _ (λ z. fail j below (ap (λ m. m % other) is ∙ z))) (λ (past : n ≤ j). absurd (omega (arith, mul-le-mul_right step past))) (cases_lt j n)
+
   sorted_first : first_from limit 1 (both_divide step other) ≡ first_from limit 1 (both_divide a b)
   sorted_first =
       first_like limit 1 (both_divide step other) (both_divide a b) (λ m. ap₂ (λ x y. both_divide x y m) larger smaller ∙ both_sorted a b m)
 
-  pub least_found : (m : ℕ) → Passed step other m → m ≤ limit → m % other ≡ 0 → Some m ≡ first_from limit 1 (both_divide a b)
-  least_found m p low whole =
+  pub least_found : (i m : ℕ) → m ≡ step + i * step → m < limit + 1 → m % other ≡ 0 → Fail i → Some m ≡ first_from limit 1 (both_divide a b)
+  least_found i m is low whole fail =
       sym (first_is limit 1 (both_divide step other) m
       (record {
-        above = p.some;
+        above = omega arith;
         below = omega arith;
-        passes = and_from _ _ (eq-eqb (m % step) 0 p.whole) (eq-eqb (m % other) 0 whole);
-        least = p.none;
+        passes = and_from _ _ (eq-eqb (m % step) 0 (ap (λ n. n % step) is ∙ add-mul-mod_self_right step i step ∙ mod_self step)) (eq-eqb (m % other) 0 whole);
+        least = λ k l h. none_yet i fail k l (omega arith);
       }))
       ∙ sorted_first
 
-  pub least_missed : (m : ℕ) → Passed step other m → limit < m → None ≡ first_from limit 1 (both_divide a b)
-  least_missed m p past = sym (first_fails limit 1 (both_divide step other) (λ k l h. p.none k l (omega arith))) ∙ sorted_first
+  pub least_missed : (n : ℕ) → limit < step + n * step → Fail n → None ≡ first_from limit 1 (both_divide a b)
+  least_missed n past fail = sym (first_fails limit 1 (both_divide step other) (λ k l h. none_yet n fail k l (omega arith))) ∙ sorted_first
 
 -- 0 has no positive multiple
 pub least_of_zero : (limit a b : ℕ) → (a ≡ 0) ⊎ (b ≡ 0) → None ≡ first_from limit 1 (both_divide a b)

@@ -1,67 +1,45 @@
 -- The waiting instances of the first rows. Assumes nothing.
-use Rattle.std.proofs.Common.{◌≡◌, ℕ, zero, suc, ◌+◌, ◌-◌, ◌<◌, ◌≤◌, Bool, true, false, cond, ◌≢◌, [], ◌∷◌, ◌++◌, length, get_or, Some, None, Option, sym, refl, ap, ◌∙◌, subst, ap₂, inl, inr, append-nil, add-one, arith}
-use Rattle.std.proofs.lemmas.List.{length-append, get_or_append_left, get_or-append_right, get_or_push}
-use Rattle.std.proofs.lemmas.Bool.{cases_lt, cases_order}
+use Rattle.std.proofs.Common.{◌≡◌, ℕ, zero, suc, ◌+◌, ◌<◌, Bool, true, false, cond, ◌&&◌, [], ◌∷◌, ◌++◌, length, get_or, Some, None, Option, sym, refl, ap, ◌∙◌, subst, ap₂, inl, inr, append-nil, add-one, arith}
+use Rattle.std.proofs.lemmas.List.{length-append, get_or_append_left, get_or_push}
+use Rattle.std.proofs.lemmas.Bool.{cases_order}
 use Rattle.orders.specs.declared.instance.Instance.{Instance}
 use Rattle.engine.specs.declared.row.Row.{Row}
 use Rattle.engine.specs.Rows.{instance_of, waits}
-use Rattle.engine.specs.Cycle.{Slots, waiter, waiters}
+use Rattle.engine.specs.Cycle.{Slots, used_and, waiter, waiters}
 use Rattle.engine.specs.Held.{no_instance}
 
 pub waiters_none : (t : Slots) → waiters 0 t ≡ []
 unfolding waiters
 waiters_none t = refl
 
-pub waiters_more : (n : ℕ) (t : Slots) → waiters (n + 1) t ≡ waiters n t ++ waiter n (t n)
+waiters_more : (n : ℕ) (t : Slots) → waiters (n + 1) t ≡ waiters n t ++ waiter n (t n)
 unfolding waiters
 waiters_more n t = ap (λ m. waiters m t) (add-one n)
-
--- a row adds at most one, with its own number
-waiter_short : (n : ℕ) (o : Option Row) → length (waiter n o) ≤ 1
-waiter_short n None = omega arith
-waiter_short n (Some row) = elim (waits row) as (λ b. length (cond b (instance_of n row ∷ []) []) ≤ 1) [ true ↦ omega arith | false ↦ omega arith ]
-
-waiter_row : (n : ℕ) (o : Option Row) (k : ℕ) → k < length (waiter n o) → (get_or (waiter n o) k no_instance).row ≡ n
-waiter_row n None k h = absurd (omega arith)
-waiter_row n (Some row) k h = go (waits row) k h
-  where
-    go : (b : Bool) (k : ℕ) → k < length (cond b (instance_of n row ∷ []) []) → (get_or (cond b (instance_of n row ∷ []) []) k no_instance).row ≡ n
-    go true zero h = refl
-    go true (suc k) h = absurd (omega arith)
-    go false k h = absurd (omega arith)
-
-pub length_waiters : (n : ℕ) (t : Slots) → length (waiters n t) ≤ n
-unfolding waiters
-length_waiters zero t = omega arith
-length_waiters (suc n) t = omega (arith, length-append (waiters n t) (waiter n (t n)), length_waiters n t, waiter_short n (t n))
-
--- the rows of the first n are below n
-pub row_below : (n : ℕ) (t : Slots) (k : ℕ) → k < length (waiters n t) → (get_or (waiters n t) k no_instance).row < n
-unfolding waiters
-row_below zero t k h = absurd (omega arith)
-row_below (suc n) t k h =
-    elim (cases_lt k (length (waiters n t))) [
-      | inl below ↦ omega (arith, ap (λ i. i.row) (get_or_append_left (waiters n t) (waiter n (t n)) no_instance k below), row_below n t k below)
-      | inr past ↦
-          let place : k - length (waiters n t) < length (waiter n (t n)) = omega (arith, length-append (waiters n t) (waiter n (t n))) in
-          omega (arith, ap (λ i. i.row) (get_or-append_right (waiters n t) (waiter n (t n)) (length (waiters n t)) k no_instance refl past), waiter_row n (t n) (k - length (waiters n t)) place)
-    ]
 
 -- what row r adds
 module _ (r : ℕ) (t : Slots) where
   pub waiters_stay : [] ≡ waiter r (t r) → waiters (r + 1) t ≡ waiters r t
   waiters_stay none = waiters_more r t ∙ ap (λ is. waiters r t ++ is) (sym none) ∙ append-nil (waiters r t)
 
-  module _ (x : Instance) (adds : x ∷ [] ≡ waiter r (t r)) where
-    pub waiters_push : waiters (r + 1) t ≡ waiters r t ++ x ∷ []
-    waiters_push = waiters_more r t ∙ ap (λ is. waiters r t ++ is) (sym adds)
+  pub waiters_push : (x : Instance) → x ∷ [] ≡ waiter r (t r) → waiters (r + 1) t ≡ waiters r t ++ x ∷ []
+  waiters_push x adds = waiters_more r t ∙ ap (λ is. waiters r t ++ is) (sym adds)
 
-    -- its row is above those before it
-    pub row_apart : (k : ℕ) → k < length (waiters r t) → (get_or (waiters r t) k no_instance).row ≢ x.row
-    row_apart k h =
-        let own : x.row ≡ r = ap (λ is. (get_or is 0 no_instance).row) adds ∙ waiter_row r (t r) 0 (omega (arith, ap length adds)) in
-        let below = row_below r t k h in
-        omega arith
+-- a test of a slot's waiting instance is one of the slot
+pub waiter_passes : (test : Instance → Bool) (r : ℕ) (o : Option Row) (x : Instance) → x ∷ [] ≡ waiter r o → used_and (λ row. waits row && test (instance_of r row)) o ≡ test x
+waiter_passes test r None x e = cc
+waiter_passes test r (Some row) x e = go (waits row) e
+  where
+    go : (b : Bool) → x ∷ [] ≡ cond b (instance_of r row ∷ []) [] → (b && test (instance_of r row)) ≡ test x
+    go true e = ap (λ is. test (get_or is 0 x)) (sym e)
+    go false e = cc
+
+pub no_waiter_passes : (test : Instance → Bool) (r : ℕ) (o : Option Row) → [] ≡ waiter r o → used_and (λ row. waits row && test (instance_of r row)) o ≡ false
+no_waiter_passes test r None e = refl
+no_waiter_passes test r (Some row) e = go (waits row) e
+  where
+    go : (b : Bool) → [] ≡ cond b (instance_of r row ∷ []) [] → (b && test (instance_of r row)) ≡ false
+    go true e = cc
+    go false e = refl
 
 -- the instance of a waiting row stands after those of the rows below it
 pub waiter_place : (n r : ℕ) (t : Slots) (x : Instance) → r < n → x ∷ [] ≡ waiter r (t r) → length (waiters r t) < length (waiters n t)

@@ -1,42 +1,17 @@
 -- The word of the waiting rows, and the comparison of two such words. Assumes nothing.
-use Rattle.std.proofs.Common.{◌≡◌, ℕ, zero, suc, ◌+◌, ◌*◌, ◌/◌, ◌%◌, ◌^◌, ◌<◌, ◌≤◌, Bool, true, false, not, ◌&&◌, ◌||◌, eqb, List, map, length, get_or, take, sym, refl, ap, ◌∙◌, subst, ap₂, ⊎_elim, arith}
+use Rattle.std.proofs.Common.{◌≡◌, ℕ, zero, suc, ◌/◌, ◌%◌, ◌^◌, ◌<◌, Bool, true, false, not, ◌&&◌, ◌||◌, eqb, map, length, get_or, sym, refl, ap, ◌∙◌, subst, ap₂, ⊎_elim, arith}
 use native.Mathlib.Nat.{pow-succ'}
 use lib.Bits.{bit_and, bit_or, and_lt, and_shr, and_mod, or_shr, or_mod}
 use Rattle.std.specs.List.{range_with_len}
-use Rattle.std.proofs.lemmas.List.FromFn.{length-map-range_with_len, get_or-map-range_with_len, take-map-range_with_len}
+use Rattle.std.proofs.lemmas.List.FromFn.{length-map-range_with_len, get_or-map-range_with_len}
 use Rattle.std.proofs.lemmas.Bool.{cases_eq, eq-eqb, ne_eqb, and_from, both_ways}
 use Rattle.bus.specs.Rows.{member, members, word_of}
-use Rattle.bus.proofs.Words.{members_word_of, get_or_members, word_of_members, members_by_rows, word_of_set, word_of_left, word_of_below, length_members, member_suc, no_member_past}
+use Rattle.bus.proofs.Words.{members_word_of, get_or_members, word_of_members, members_by_rows, word_of_below, length_members, member_suc, no_member_past}
 use Rattle.engine.specs.Cycle.{Slots}
 use Rattle.engine.specs.Rehearsal.{every, settled}
+use Rattle.engine.specs.Held.{word_below}
 use Rattle.engine.specs.Waiting.{waits_at, waiting_word}
 use Rattle.engine.proofs.Tests.{every_at}
-
-module _ (test : ℕ → Bool) where
-  abbrev flags : ℕ → List Bool
-  flags n = map test (range_with_len 0 n)
-
-  front : (k : ℕ) → k ≤ 32 → word_of (take k (flags 32)) ≡ word_of (flags k)
-  front k h = ap word_of (take-map-range_with_len test 0 32 k h)
-
-  flag : (r : ℕ) → r < 32 → get_or (flags 32) r false ≡ test r
-  flag r h = get_or-map-range_with_len test 0 32 r r false h (omega arith)
-
-  pub word_none : word_of (flags 0) ≡ 0
-  unfolding word_of
-  word_none = refl
-
-  -- the code sets the bit of row r where it passes
-  pub word_set : (r : ℕ) → r < 32 → test r ≡ true → bit_or (word_of (flags r)) ((1 * 2 ^ r) % 2 ^ 32) ≡ word_of (flags (r + 1))
-  word_set r h is =
-      let long : length (flags 32) ≡ 32 = length-map-range_with_len test 0 32 in
-      ap (λ w. bit_or w ((1 * 2 ^ r) % 2 ^ 32)) (sym (front r (omega arith))) ∙ word_of_set (flags 32) r (omega arith) h (flag r h ∙ is) ∙ front (r + 1) (omega arith)
-
-  -- or leaves it
-  pub word_left : (r : ℕ) → r < 32 → test r ≡ false → word_of (flags r) ≡ word_of (flags (r + 1))
-  word_left r h is =
-      let long : length (flags 32) ≡ 32 = length-map-range_with_len test 0 32 in
-      sym (front r (omega arith)) ∙ word_of_left (flags 32) r (omega arith) (flag r h ∙ is) ∙ front (r + 1) (omega arith)
 
 -- the word of those that pass a test has exactly them
 pub member_word : (test : ℕ → Bool) (n r : ℕ) → r < n → member (word_of (map test (range_with_len 0 n))) r ≡ test r
@@ -51,18 +26,10 @@ member_word test n r h =
 pub word_fits : (test : ℕ → Bool) (n : ℕ) → word_of (map test (range_with_len 0 n)) < 2 ^ n
 word_fits test n = subst (λ m. word_of (map test (range_with_len 0 n)) < 2 ^ m) (length-map-range_with_len test 0 n) (word_of_below (map test (range_with_len 0 n)))
 
--- the word of the waiting rows, row by row
-pub waiting_none : (t : Slots) → waiting_word 0 t ≡ 0
-unfolding waiting_word
-waiting_none t = word_none (waits_at t)
-
-pub waiting_set : (t : Slots) (r : ℕ) → r < 32 → waits_at t r ≡ true → bit_or (waiting_word r t) ((1 * 2 ^ r) % 2 ^ 32) ≡ waiting_word (r + 1) t
-unfolding waiting_word
-waiting_set t = word_set (waits_at t)
-
-pub waiting_left : (t : Slots) (r : ℕ) → r < 32 → waits_at t r ≡ false → waiting_word r t ≡ waiting_word (r + 1) t
-unfolding waiting_word
-waiting_left t = word_left (waits_at t)
+-- the word of the waiting rows
+pub waiting_below : (t : Slots) (n : ℕ) → word_below n (waits_at t) ≡ waiting_word n t
+unfolding waiting_word word_below
+waiting_below t n = refl
 
 -- it has exactly the waiting rows
 pub member_waiting : (n : ℕ) (t : Slots) (r : ℕ) → r < n → member (waiting_word n t) r ≡ waits_at t r

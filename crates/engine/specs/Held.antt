@@ -7,6 +7,9 @@ use Rattle.bus.specs.Rows.{member, word_of}
 use Rattle.orders.specs.Laws.{Order}
 use Rattle.orders.specs.declared.instance.Instance.{Instance}
 use Rattle.engine.specs.declared.row.Row.{Row}
+pub use Rattle.engine.specs.Columns.{no_instance}
+use Rattle.engine.specs.declared.columns.Columns.{Columns}
+use Rattle.engine.specs.declared.rules.Rules.{Rules as By}
 use Rattle.engine.specs.Rows.{instance_of, waits, closed, misses}
 use Rattle.engine.specs.Cycle.{Slots, Rules, used_and, waiters, load, fits}
 
@@ -18,9 +21,8 @@ slots rows r = slice_index_or rows r None
 abbrev pub rules_of : Order → (window : ℕ) → Rules
 rules_of goes window = record { goes = goes; window = window; rows = 32 }
 
--- what the code reads past the end of a list of instances
-abbrev pub no_instance : Instance
-no_instance = record { row = 0; duration = 0; period = 0; deadline = 0; priority = 0; left = 0 }
+abbrev pub rules_by : {P : Type 0} → (P → Order) → By P → Rules
+rules_by goes by = rules_of (goes by.policy.now) by.window
 
 -- THE TABLE IN COLUMNS
 
@@ -46,6 +48,9 @@ StandsSlot r kind wait left (Some row) = (seen r left kind ≡ instance_of r row
 pub record Stands (kinds : List Instance) (waits lefts : List ℕ) (t : Slots) : Type 0 where
   pub at : (r : ℕ) → r < 32 → StandsSlot r (slice_index_or kinds r no_instance) (slice_index waits r) (slice_index lefts r) (t r)
   pub past : (r : ℕ) → 32 ≤ r → t r ≡ None
+
+abbrev pub shows : Columns → Slots → Type 0
+shows columns t = Stands columns.kinds columns.waits columns.lefts t
 
 -- the used rows of a table with other counters
 abbrev pub counted : (waits lefts : List ℕ) → Slots → Slots

@@ -1,3 +1,4 @@
+pub mod Columns
 pub mod Comparison
 pub mod Cycle
 pub mod Held

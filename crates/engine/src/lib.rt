@@ -1,7 +1,7 @@
 // The table of periodic messages: what one elementary cycle does to it, and the rehearsal of a change.
 #![tactic(auto)]
 
-mod counters;
+mod columns;
 pub mod cycle;
 pub mod known;
 mod line;
@@ -9,4 +9,6 @@ pub mod rehearsal;
 pub mod round;
 pub mod row;
 pub mod row_by_row;
+mod rules;
+mod running;
 pub mod verdict;

@@ -2,39 +2,37 @@
 ghost use Rattle.std.specs.Prelude.{◌≡◌, ℕ, ◌+◌, ◌^◌, ◌<◌, Some};
 ghost use Rattle.std.specs.Option.{unwrap_or};
 ghost use Rattle.engine.specs.Cycle.{Slots};
-ghost use Rattle.engine.specs.Held.{slots, rules_of, Stands};
+ghost use Rattle.engine.specs.Held.{slots, rules_of, rules_by};
 ghost use Rattle.engine.specs.Comparison.{Sound, Calm, FirstLate};
-ghost use Rattle.engine.specs.Rehearsal.{stretch, rounds, verdict, rehearsed};
+ghost use Rattle.engine.specs.Rehearsal.{lead_in, stretch, rounds, verdict, rehearsed};
 ghost use Rattle.engine.specs.declared.verdict.Verdict.TheVariants.{Settled, Late};
 ghost use Rattle.engine.specs.declared.verdict.Verdict.{Verdict as Decided};
 
-use crate::counters::{kinds_of, lefts_of, waiting, waits_of};
-use crate::cycle::run_columns;
+use crate::columns::Columns;
 use crate::round::{has_settled, lead_in, round_of};
 use crate::row::Row;
+use crate::rules::Rules;
+use crate::running::Running;
 use crate::verdict::Verdict;
 use bus::rows::ROWS;
-use orders::instance::{Cycles, Instance};
+use orders::instance::Cycles;
 use orders::policy::Policy;
 
 // A table that has not settled after so many rounds is not waited for any longer.
-pub(crate) const MOST_ROUNDS: u32 = 4;
+const MOST_ROUNDS: u32 = 4;
 
 // Runs so many cycles, the first of which has the number `coming`; a late row ends them.
-fn run_stretch<P: Policy>(
-    kinds: &[Instance; ROWS],
-    waits: &mut [Cycles; ROWS],
-    lefts: &mut [Cycles; ROWS],
-    window: u8,
-    policy: &P,
+fn run_stretch<T: Running, P: Policy>(
+    table: &mut T,
+    rules: &Rules<P>,
     cycles: u32,
     coming: u32,
 ) -> Option<Verdict>
     requires { coming + cycles < 2 ^ 32 }
-    ensures { (t : Slots) → Stands kinds.now waits.old lefts.old t → (u : Slots) × Stands kinds.now waits.new lefts.new u × ((next : Slots → Decided) → stretch (rules_of (P.Policy.goes policy.now) window) cycles coming next t ≡ unwrap_or result (next u)) }
+    ensures { (t : Slots) → T.shows table.old t → (u : Slots) × T.shows table.new u × ((next : Slots → Decided) → stretch (rules_by P.Policy.goes rules.now) cycles coming next t ≡ unwrap_or result (next u)) }
 {
     for done in 0..cycles {
-        if let Some(row) = run_columns(kinds, waits, lefts, window, policy).late {
+        if let Some(row) = table.run(rules).late {
             return Some(Verdict::Late {
                 row,
                 cycle: coming + done,
@@ -45,25 +43,22 @@ fn run_stretch<P: Policy>(
 }
 
 // Runs rounds until the table has settled, at most four.
-fn run_rounds<P: Policy>(
-    kinds: &[Instance; ROWS],
-    waits: &mut [Cycles; ROWS],
-    lefts: &mut [Cycles; ROWS],
-    window: u8,
-    policy: &P,
+fn run_rounds<T: Running, P: Policy>(
+    table: &mut T,
+    rules: &Rules<P>,
     round: u32,
     first: u32,
 ) -> Verdict
     requires { (round < 2 ^ 16) × (first < 2 ^ 20) }
-    ensures { (t : Slots) → Stands kinds.now waits.old lefts.old t → result ≡ rounds (rules_of (P.Policy.goes policy.now) window) round 4 first t }
+    ensures { (t : Slots) → T.shows table.old t → result ≡ rounds (rules_by P.Policy.goes rules.now) round 4 first t }
 {
     let mut coming = first;
     for _done in 0..MOST_ROUNDS {
-        let start = waiting(lefts);
-        if let Some(late) = run_stretch(kinds, waits, lefts, window, policy, round, coming) {
+        let start = table.waiting();
+        if let Some(late) = run_stretch(table, rules, round, coming) {
             return late;
         }
-        if has_settled(start, waiting(lefts)) {
+        if has_settled(start, table.waiting()) {
             return Verdict::Settled;
         }
         coming += round;
@@ -71,27 +66,35 @@ fn run_rounds<P: Policy>(
     Verdict::Unsettled
 }
 
-// The verdict on a table with this round.
-fn judge<P: Policy>(rows: &[Option<Row>; ROWS], window: u8, policy: &P, round: u32) -> Verdict
-    requires { round < 2 ^ 16 }
-    ensures { result ≡ verdict (rules_of (P.Policy.goes policy.now) window) round (slots rows.now) }
+// The verdict on a table with this lead-in and this round.
+fn judge<T: Running, P: Policy>(
+    table: &mut T,
+    rules: &Rules<P>,
+    lead: Cycles,
+    round: u16,
+) -> Verdict
+    ensures { (t : Slots) → T.shows table.old t → lead ≡ lead_in 32 t → result ≡ verdict (rules_by P.Policy.goes rules.now) round t }
 {
-    let lead = u32::from(lead_in(rows));
-    let kinds = kinds_of(rows);
-    let mut waits = waits_of(rows);
-    let mut lefts = lefts_of(rows);
-    match run_stretch(&kinds, &mut waits, &mut lefts, window, policy, lead, 1) {
+    let lead = u32::from(lead);
+    match run_stretch(table, rules, lead, 1) {
         Some(late) => late,
-        None => run_rounds(
-            &kinds,
-            &mut waits,
-            &mut lefts,
-            window,
-            policy,
-            round,
-            1 + lead,
-        ),
+        None => run_rounds(table, rules, u32::from(round), 1 + lead),
     }
+}
+
+// The verdict on these rows, by a table that holds them; none where their round is too long to rehearse.
+pub(crate) fn rehearse_on<T: Running, P: Policy>(
+    table: &mut T,
+    rows: &[Option<Row>; ROWS],
+    rules: &Rules<P>,
+) -> Option<Verdict>
+    requires { T.shows table.old (slots rows.now) }
+    ensures value { result ≡ rehearsed (rules_by P.Policy.goes rules.now) 5040 (slots rows.now) }
+    ensures calm { Sound (slots rows.now) → result ≡ Some Settled → Calm (rules_by P.Policy.goes rules.now) (slots rows.now) }
+    ensures late { (row cycle : ℕ) → result ≡ Some (Late row cycle) → FirstLate (rules_by P.Policy.goes rules.now) (slots rows.now) row cycle }
+{
+    let round = round_of(rows)?;
+    Some(judge(table, rules, lead_in(rows), round))
 }
 
 // The verdict on a table; none where its round is too long to rehearse. The table itself is left as it is.
@@ -100,8 +103,6 @@ pub fn rehearse<P: Policy>(rows: &[Option<Row>; ROWS], window: u8, policy: &P) -
     ensures calm { Sound (slots rows.now) → result ≡ Some Settled → Calm (rules_of (P.Policy.goes policy.now) window) (slots rows.now) }
     ensures late { (row cycle : ℕ) → result ≡ Some (Late row cycle) → FirstLate (rules_of (P.Policy.goes policy.now) window) (slots rows.now) row cycle }
 {
-    match round_of(rows) {
-        Some(round) => Some(judge(rows, window, policy, u32::from(round))),
-        None => None,
-    }
+    let mut columns = Columns::of(rows);
+    rehearse_on(&mut columns, rows, &Rules { window, policy })
 }

@@ -7,7 +7,7 @@ ghost use Rattle.engine.specs.Rehearsal.{every, first_from, divided_by, round, l
 ghost use Rattle.engine.specs.Held.{slots};
 ghost use Rattle.engine.specs.Waiting.{waits_at, waiting_word};
 
-use crate::counters::wait_of;
+use crate::columns::wait_of;
 use crate::row::Row;
 use bus::rows::{ROWS, RowSet};
 use orders::instance::Cycles;
@@ -22,14 +22,13 @@ fn common_multiple(a: u16, b: u16) -> Option<u16>
     if a == 0 || b == 0 {
         return None;
     }
-    let step = a.max(b) as u32;
-    let other = a.min(b) as u32;
-    let mut multiple = step;
-    while multiple <= MOST_CYCLES_IN_ROUND as u32 {
+    let step = a.max(b);
+    let other = a.min(b);
+    for times in 1..MOST_CYCLES_IN_ROUND / step + 1 {
+        let multiple = times * step;
         if multiple % other == 0 {
-            return Some(multiple as u16);
+            return Some(multiple);
         }
-        multiple += step;
     }
     None
 }
@@ -38,10 +37,7 @@ fn common_multiple(a: u16, b: u16) -> Option<u16>
 fn period_of(slot: Option<Row>) -> u16
     ensures { (m : ℕ) → divided_by slot m ≡ (m % result == 0) }
 {
-    match slot {
-        Some(row) => row.figures.period as u16,
-        None => 1,
-    }
+    slot.map_or(1, |row| u16::from(row.figures.period))
 }
 
 // The round: the least number of cycles that every used row's period divides; none where it is above the limit.
@@ -49,8 +45,8 @@ pub fn round_of(rows: &[Option<Row>; ROWS]) -> Option<u16>
     ensures { result ≡ round 5040 32 (slots rows.now) }
 {
     let mut cycles = 1;
-    for r in 0..ROWS {
-        cycles = common_multiple(cycles, period_of(rows[r]))?;
+    for slot in rows {
+        cycles = common_multiple(cycles, period_of(*slot))?;
     }
     Some(cycles)
 }
@@ -58,21 +54,15 @@ pub fn round_of(rows: &[Option<Row>; ROWS]) -> Option<u16>
 fn row_waits(slot: Option<Row>) -> bool
     ensures { result ≡ used_and waits slot }
 {
-    match slot {
-        Some(row) => row.waits(),
-        None => false,
-    }
+    slot.is_some_and(Row::waits)
 }
 
 // The lead-in: the greatest wait, after which every wait is below its period.
 pub fn lead_in(rows: &[Option<Row>; ROWS]) -> Cycles
     ensures { result ≡ lead_in 32 (slots rows.now) }
 {
-    let mut greatest: Cycles = 0;
-    for r in 0..ROWS {
-        greatest = greatest.max(wait_of(rows[r]));
-    }
-    greatest
+    rows.iter()
+        .fold(0, |greatest, slot| greatest.max(wait_of(*slot)))
 }
 
 // The rows that wait.
@@ -81,10 +71,8 @@ pub fn waiting(rows: &[Option<Row>; ROWS]) -> RowSet
     ensures each { (k : ℕ) → k < 32 → member result.word k ≡ waits_at (slots rows.now) k }
 {
     let mut word = 0;
-    for r in 0..ROWS {
-        if row_waits(rows[r]) {
-            word |= 1 << r;
-        }
+    for (r, slot) in rows.iter().enumerate() {
+        word |= u32::from(row_waits(*slot)) << r;
     }
     RowSet { word }
 }

@@ -49,9 +49,9 @@ impl Row {
     {
         if self.wait == 0 {
             Row {
-                figures: self.figures,
                 wait: self.figures.period,
                 left: self.figures.deadline,
+                ..self
             }
         } else {
             self
@@ -74,9 +74,9 @@ impl Row {
             self.left.saturating_sub(1)
         };
         Row {
-            figures: self.figures,
             wait: self.wait.saturating_sub(1),
             left,
+            ..self
         }
     }
 
@@ -84,6 +84,6 @@ impl Row {
     pub fn misses(self, scheduled: bool) -> bool
         ensures { result ≡ misses scheduled self }
     {
-        !scheduled & (self.left == 1)
+        !scheduled && self.left == 1
     }
 }

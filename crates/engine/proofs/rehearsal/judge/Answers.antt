@@ -1,18 +1,18 @@
-use Rattle.std.proofs.Common.{◌∙◌}
-use Rattle.engine.specs.Held.{slots}
-use Rattle.engine.proofs.Columns.{stands_first}
+use Rattle.std.proofs.Common.{◌+◌, ap, ◌∙◌}
+use Rattle.engine.specs.Rehearsal.{rounds}
+use Rattle.engine.specs.Held.{rules_by}
 use Rattle.engine.proofs.Stretches.{verdict_by_lead, verdict_by_rounds}
 use Rattle.engine.proofs.rehearsal.judge.Goals as goal
 
 pub returns-in-Some : goal.returns-in-Some
 returns-in-Some g c =
-    let rows = c.args.rows.now in
-    let stands = stands_first rows _ _ _ c.told-rows c.kinds_of-kinds.ensures c.waits_of-waits.ensures c.lefts_of-lefts.ensures in
-    verdict_by_lead _ c.args.round _ (slots rows) _ (c.from-lead.ensures ∙ c.lead_in.ensures) (c.in-Some.ensures (slots rows) stands).2
+    λ t was lead.
+    verdict_by_lead (rules_by g.P.Policy.goes c.args.rules.now) c.args.round _ t _ (c.from-lead.ensures ∙ lead) (c.in-Some.ensures t was).2
 
 pub returns-in-None : goal.returns-in-None
 returns-in-None g c =
-    let rows = c.args.rows.now in
-    let stands = stands_first rows _ _ _ c.told-rows c.kinds_of-kinds.ensures c.waits_of-waits.ensures c.lefts_of-lefts.ensures in
-    let on = c.in-None.ensures (slots rows) stands in
-    verdict_by_rounds _ c.args.round _ (slots rows) on.0 _ (c.from-lead.ensures ∙ c.lead_in.ensures) on.2 (c.run_rounds.ensures on.0 on.1)
+    λ t was lead.
+    let on = c.in-None.ensures t was in
+    let rules = rules_by g.P.Policy.goes c.args.rules.now in
+    verdict_by_rounds rules c.args.round _ t on.0 _ (c.from-lead.ensures ∙ lead) on.2
+    (c.run_rounds.ensures on.0 on.1 ∙ ap (λ m. rounds rules m 4 (1 + c.from-lead.result) on.0) c.from.ensures)

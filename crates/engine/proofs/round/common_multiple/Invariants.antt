@@ -1,9 +1,5 @@
-use Rattle.std.proofs.Common.{◌+◌, ◌-◌}
-use Rattle.engine.proofs.Multiples.{Passed}
+use Rattle.std.proofs.Common.{◌≡◌, ℕ, suc, ◌+◌, ◌*◌, ◌%◌, ◌<◌}
 use Rattle.engine.proofs.round.common_multiple.Given as goal
 
-abbrev pub invariant-loop-multiple : goal.invariant-loop-multiple
-invariant-loop-multiple l = Passed l.step l.other l.multiple
-
-abbrev pub decreases-loop-multiple : goal.decreases-loop-multiple
-decreases-loop-multiple l = 5040 + l.step - l.multiple
+abbrev pub invariant-loop-times : goal.invariant-loop-times
+invariant-loop-times l = (j : ℕ) → suc j < l.times → (l.step + j * l.step) % l.other ≡ 0 → ⊥

@@ -1,0 +1,25 @@
+// The table in columns, for cycles in a row.
+ghost use Rattle.engine.specs.Columns.{InStep};
+
+use bus::rows::ROWS;
+use orders::instance::{Cycles, Instance};
+
+mod counting;
+mod making;
+mod serving;
+
+pub(crate) use making::wait_of;
+
+#[derive(Drop)]
+pub struct Columns {
+    // what a policy sees of each row
+    kinds: [Instance; ROWS],
+    // the periods and the deadlines that it sees
+    periods: [Cycles; ROWS],
+    deadlines: [Cycles; ROWS],
+    // the cycles until each row's next release
+    waits: [Cycles; ROWS],
+    // the cycles to the deadline of each row's waiting instance; 0 where none waits
+    lefts: [Cycles; ROWS],
+    ghost in_step: { InStep kinds periods deadlines waits lefts },
+}

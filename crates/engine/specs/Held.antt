@@ -81,18 +81,6 @@ pub record Queue (goes : Order) (window : ℕ) (all line : List Instance) : Type
   pub shuffled : IsPermutation all line
   pub fit : (k : ℕ) → k < length line → nat_le (total (take (k + 1) line)) window ≡ fits goes window all (slice_index_or line k no_instance)
 
--- what stood from a place up to n stands one place on
-pub record Opened (place n : ℕ) (old new : List Instance) : Type 0 where
-  pub before : (k : ℕ) → k < place → slice_index_or new k no_instance ≡ slice_index_or old k no_instance
-  pub on : (k : ℕ) → place ≤ k → k < n → slice_index_or new (k + 1) no_instance ≡ slice_index_or old k no_instance
-  pub rest : (k : ℕ) → n < k → slice_index_or new k no_instance ≡ slice_index_or old k no_instance
-
--- what stood at n stands in its place among those before it
-pub record PutIn (goes : Order) (n : ℕ) (old new : List Instance) : Type 0 where
-  pub shuffled : IsPermutation (take (n + 1) old) (take (n + 1) new)
-  pub ordered : Ordered goes (take (n + 1) new)
-  pub rest : (k : ℕ) → n < k → slice_index_or new k no_instance ≡ slice_index_or old k no_instance
-
 -- the first n of a line are scheduled, and fit: they are the rows of the word, and wait no longer
 pub record Served (line : List Instance) (window n word : ℕ) (old new : List ℕ) : Type 0 where
   pub few : n ≤ length line
@@ -114,15 +102,6 @@ demand goes all i = i.duration + load goes all i
 -- the numbers begin with the demands of the instances, in their order
 abbrev pub Demands : Order → List Instance → List ℕ → Type 0
 Demands goes all numbers = (k : ℕ) → k < length all → slice_index numbers k ≡ demand goes all (slice_index_or all k no_instance)
-
--- an instance x is counted in the demands of those of the first n that it goes before; the numbers after them stay
-pub record CountedIn (goes : Order) (all : List Instance) (x : Instance) (n : ℕ) (old new : List ℕ) : Type 0 where
-  pub first : (k : ℕ) → k < n → slice_index new k ≡ slice_index old k + cond (goes (slice_index_or all k no_instance) x) 0 x.duration
-  pub rest : (k : ℕ) → n ≤ k → slice_index new k ≡ slice_index old k
-
--- whether row r waits and the demand of its instance, which comes after those of the waiting rows below it, is within the window
-abbrev pub within : (demands : List ℕ) → (window : ℕ) → Slots → ℕ → Bool
-within demands window t r = used_and (λ row. waits row && nat_le (slice_index demands (length (waiters r t))) window) (t r)
 
 -- the table at the end of a cycle, by which rows were scheduled
 abbrev pub closed_by : (scheduled : ℕ → Bool) → Slots → Slots

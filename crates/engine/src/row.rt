@@ -5,7 +5,7 @@ ghost use Rattle.engine.specs.Rows.{instance_of, released, waits, closed, misses
 use orders::instance::{Cycles, Instance};
 
 // What the crew enters for a message.
-#[derive(Clone, Copy, PartialEq, Eq, Debug)]
+#[derive(Clone, Copy, PartialEq, Eq, Debug, Default)]
 pub struct Figures {
     // units of the cycle, 1 to 255
     pub duration: u8,

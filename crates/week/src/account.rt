@@ -2,12 +2,12 @@
 ghost use Rattle.std.specs.Prelude.{◌≡◌, ◌-◌, ◌≤◌};
 ghost use Rattle.rules.specs.Ledger.{releases};
 
+use arrayvec::ArrayVec;
 use bus::rows::RowSet;
 use engine::row::Figures;
-use std::alloc::{AllocError, Global};
 use std::fmt;
 
-#[derive(Clone, Copy)]
+#[derive(Clone, Copy, Default)]
 pub struct Account {
     row: u8,
     figures: Figures,
@@ -80,30 +80,32 @@ impl fmt::Display for Balance {
     }
 }
 
+const MOST_MESSAGES: usize = 16;
+
 #[derive(Drop)]
 pub struct Book {
     // the cycles that were noted
     pub count: u32,
-    accounts: Vec<Account>,
+    accounts: ArrayVec<Account, MOST_MESSAGES>,
 }
 
 impl Book {
-    pub fn new(alloc: Global) -> Book {
+    pub fn new() -> Book {
         Book {
             count: 0,
-            accounts: Vec::new(alloc),
+            accounts: ArrayVec::new(),
         }
     }
 
-    pub fn begin(&mut self, row: u8, figures: Figures) -> Result<(), AllocError> {
-        self.accounts.push(Account {
+    // A message beyond the last that the book has room for is not noted.
+    pub fn begin(&mut self, row: u8, figures: Figures) {
+        let _ = self.accounts.try_push(Account {
             row,
             figures,
             start: self.count,
             ended: None,
             scheduled: 0,
-        })?;
-        Ok(())
+        });
     }
 
     fn running(&mut self, row: u8) -> Option<&mut Account> {

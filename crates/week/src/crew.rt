@@ -5,7 +5,6 @@ use engine::row::Figures;
 use ftt::master::Master;
 use ftt::watch::IdleWatch;
 use orders::selector::Selector;
-use std::alloc::Global;
 use std::io;
 
 #[derive(Drop)]
@@ -24,19 +23,19 @@ fn tell(rt: &HostRuntime, what: &str, answer: Result<(), Refusal>) -> io::Result
 }
 
 impl Crew {
-    pub fn new(alloc: Global) -> Crew {
+    pub fn new() -> Crew {
         let (master, watch) = Master::new(Selector::RateMonotonic);
         Crew {
             master,
             watch,
-            book: Book::new(alloc),
+            book: Book::new(),
         }
     }
 
     pub fn add(&mut self, rt: &HostRuntime, row: u8, figures: Figures) -> io::Result<()> {
         let answer = self.master.add(&self.watch, row, figures);
         if answer.is_ok() {
-            self.book.begin(row, figures)?;
+            self.book.begin(row, figures);
         }
         tell(rt, "add", answer)
     }
@@ -45,7 +44,7 @@ impl Crew {
         let answer = self.master.alter(&self.watch, row, figures);
         if answer.is_ok() {
             self.book.end(row);
-            self.book.begin(row, figures)?;
+            self.book.begin(row, figures);
         }
         tell(rt, "alter", answer)
     }

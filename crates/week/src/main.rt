@@ -57,7 +57,7 @@ fn friday(rt: &HostRuntime, book: &Book) -> io::Result<()> {
 }
 
 fn main(rt: HostRuntime) -> io::Result<()> {
-    let mut crew = Crew::new(rt.alloc());
+    let mut crew = Crew::new();
     rt.println("Monday")?;
     monday(&rt, &mut crew)?;
     crew = crew.run(6, 0);

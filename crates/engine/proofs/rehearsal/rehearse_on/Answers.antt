@@ -1,9 +1,9 @@
-use Rattle.std.proofs.Common.{◌≡◌, Some, None, sym, ap, ◌∙◌, arith}
+use Rattle.std.proofs.Common.{◌≡◌, Some, None, sym, ◌∙◌, arith}
 use Rattle.std.proofs.lemmas.List.{get_or_past}
 use Rattle.engine.specs.declared.verdict.Verdict.{Verdict}
 use Rattle.engine.specs.Held.{slots, rules_by}
 use Rattle.engine.specs.Rehearsal.{verdict}
-use Rattle.engine.proofs.Rehearsed.{Within, calm_when_rehearsed, first_late_when_late}
+use Rattle.engine.proofs.Rehearsed.{calm_when_rehearsed, first_late_when_late}
 use Rattle.engine.proofs.rehearsal.rehearse_on.Given as given
 use Rattle.engine.proofs.rehearsal.rehearse_on.Goals as goal
 

@@ -1,4 +1,4 @@
-use Rattle.std.proofs.Common.{◌≡◌, ◌+◌, ◌<◌, ◌≤◌, length, get_or, refl, ap, ◌∙◌, arith}
+use Rattle.std.proofs.Common.{◌+◌, ◌<◌, ◌≤◌, length, get_or, refl, ap, ◌∙◌, arith}
 use Rattle.engine.specs.Held.{no_instance}
 use Rattle.engine.proofs.Lines.{total_more}
 use Rattle.engine.proofs.Serving.{served_none, served_more}

@@ -5,7 +5,7 @@ ghost use Rattle.engine.specs.Load.{scheduled_units};
 ghost use Rattle.engine.specs.Held.{slots, rules_of, rules_by, shows};
 
 use crate::columns::Columns;
-use crate::line::line_up;
+use crate::line::{Line, line_up};
 use crate::row::Row;
 use crate::rules::Rules;
 use crate::running::Running;
@@ -41,7 +41,8 @@ impl Columns {
         ensures late { (t : Slots) → shows self.old t → result.late ≡ late_row (rules_by P.Policy.goes rules.now) t }
     {
         self.release();
-        let line = line_up(self, rules);
+        let mut line = Line::new();
+        line_up(self, rules, &mut line);
         let schedule = self.serve(&line, rules.window);
         let late = self.first_late();
         self.count_down();

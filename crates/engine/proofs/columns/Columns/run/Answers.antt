@@ -11,7 +11,7 @@ use Rattle.engine.proofs.columns.Columns.run.Goals as goal
 module _ (g : given.Over) (c : goal.After-count_down g) (t : Slots) (was : shows c.args.self.now t) where
   schedules : (r : ℕ) → r < 32 → member c.serve-schedule.result.word r ≡ scheduled (rules_of (g.P.Policy.goes c.args.rules.now.policy.now) c.args.rules.now.window) (release t) r
   schedules =
-      word_schedules (g.P.Policy.goes c.args.rules.now.policy.now) c.args.rules.now.window (release t) c.line_up-line.result.items (c.line_up-line.ensures.queue (release t) (c.release.ensures t was))
+      word_schedules (g.P.Policy.goes c.args.rules.now.policy.now) c.args.rules.now.window (release t) c.line_up.new.line.items (c.line_up.ensures.queue (release t) (c.release.ensures t was))
       c.serve-schedule.ensures.served.0 c.serve-schedule.result.word c.release.new.self.lefts c.serve-schedule.new.self.lefts c.serve-schedule.ensures.served.1 c.serve-schedule.ensures.served.2
 
   pub by_closing : Stands c.release.new.self.kinds c.count_down.new.self.waits c.count_down.new.self.lefts (cycle (rules_of (g.P.Policy.goes c.args.rules.now.policy.now) c.args.rules.now.window) t)

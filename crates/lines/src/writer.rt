@@ -4,7 +4,6 @@ ghost use Rattle.engine.specs.Held.{slots};
 ghost use Rattle.ftt.specs.Questions.{asked};
 ghost use Rattle.lines.specs.declared.form.Form.TheVariants.{Add};
 ghost use Rattle.lines.specs.Spelling.{spell};
-ghost use Rattle.text.specs.Texts.{text_of};
 ghost use Rattle.lines.specs.Writing.{add_numbers, Writes};
 
 use crate::name::Name;
@@ -12,7 +11,7 @@ use crate::word::Word;
 use bus::refusal::Refusal;
 use engine::row::Figures;
 use ftt::master::Master;
-use text::text::Text;
+use text::text::Line;
 
 // The numbers of the add form, in their order.
 fn add_numbers(row: u8, figures: Figures) -> [u16; 6]
@@ -28,11 +27,11 @@ fn add_numbers(row: u8, figures: Figures) -> [u16; 6]
     ]
 }
 
-fn add_text(row: u8, figures: Figures) -> Text
-    ensures { text_of result ≡ spell (Add row figures) }
+fn add_text(row: u8, figures: Figures) -> Line
+    ensures { result ≡ spell (Add row figures) }
 {
     let numbers = add_numbers(row, figures);
-    let mut text = Text::new();
+    let mut text = Line::new();
     text.push(b'(');
     text.push_all(Word::Add.text());
     for number in &numbers {

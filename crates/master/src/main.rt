@@ -1,11 +1,11 @@
 // Reads bracket lines on standard input, and prints the answer to each.
 #![tactic(auto)]
 
+use session::input::LineBuffer;
 use session::reply::Reply;
 use session::session::Session;
 use std::io;
 use std::io::Read;
-use text::text::Text;
 
 // Answers the line with this number.
 fn answer(rt: &HostRuntime, session: Session, line: &[u8], number: u32) -> io::Result<Session> {
@@ -24,13 +24,12 @@ fn answer(rt: &HostRuntime, session: Session, line: &[u8], number: u32) -> io::R
     Ok(session)
 }
 
-// Takes in a part of the input, and answers each line that ends in it. Of a line that is too long the text keeps the
-// first bytes, more than a line may have.
+// Takes in a part of the input, and answers each line that ends in it.
 fn take(
     rt: &HostRuntime,
     session: Session,
     part: &[u8],
-    line: &mut Text,
+    line: &mut LineBuffer,
     number: &mut u32,
 ) -> io::Result<Session> {
     let mut session = session;
@@ -50,7 +49,7 @@ fn main(rt: HostRuntime) -> io::Result<()> {
     let mut input = rt.stdin();
     let mut part = [0u8; 4096];
     let mut session = Session::new();
-    let mut line = Text::new();
+    let mut line = LineBuffer::new();
     let mut number = 1;
     for _ in 0..u64::MAX {
         let count = input.read(&mut part)?;

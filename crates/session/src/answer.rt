@@ -2,14 +2,13 @@
 ghost use Rattle.std.specs.Prelude.{◌≡◌, ◌+◌, ◌/◌, ◌%◌, ◌<◌, ◌≤◌, ◌++◌, length, decimal, Some};
 ghost use Rattle.bus.specs.Refusals.{field_number};
 ghost use Rattle.bus.specs.Triggers.{trigger_bytes};
-ghost use Rattle.text.specs.Texts.{text_of};
 ghost use Rattle.session.specs.Printed.{hex_digit, hex_byte, hex_bytes, ended, printed, refused, sent};
 
 use bus::refusal::{Field, Refusal};
 use bus::rows::RowSet;
 use lines::fault::Fault;
 use std::fmt;
-use text::text::Text;
+use text::text::Line;
 
 fn field_number(field: Field) -> u8
     ensures { result ≡ field_number field }
@@ -110,8 +109,8 @@ impl fmt::Display for Answer {
 
 impl Answer {
     // The answer as a line, with its end.
-    pub fn line(self) -> Text
-        ensures { text_of result ≡ ended (printed self) }
+    pub fn line(self) -> Line
+        ensures { result ≡ ended (printed self) }
     {
         match self {
             Answer::Made => plain(b"(ok)"),
@@ -123,22 +122,22 @@ impl Answer {
     }
 }
 
-fn plain(part: &[u8]) -> Text
+fn plain(part: &[u8]) -> Line
     requires { length part.now ≤ 64 }
-    ensures { text_of result ≡ ended part.now }
+    ensures { result ≡ ended part.now }
 {
-    let mut text = Text::new();
+    let mut text = Line::new();
     text.push_all(part);
     text.push(b'\n');
     text
 }
 
 // A number between two parts.
-fn with_number(before: &[u8], number: u64, after: &[u8]) -> Text
+fn with_number(before: &[u8], number: u64, after: &[u8]) -> Line
     requires { length before.now + length after.now ≤ 64 }
-    ensures { text_of result ≡ ended (before.now ++ (decimal number ++ after.now)) }
+    ensures { result ≡ ended (before.now ++ (decimal number ++ after.now)) }
 {
-    let mut text = Text::new();
+    let mut text = Line::new();
     text.push_all(before);
     text.push_number(number);
     text.push_all(after);
@@ -147,11 +146,11 @@ fn with_number(before: &[u8], number: u64, after: &[u8]) -> Text
 }
 
 // Two numbers between three parts.
-fn with_numbers(before: &[u8], first: u64, between: &[u8], second: u64, after: &[u8]) -> Text
+fn with_numbers(before: &[u8], first: u64, between: &[u8], second: u64, after: &[u8]) -> Line
     requires { length before.now + length between.now + length after.now ≤ 64 }
-    ensures { text_of result ≡ ended (before.now ++ (decimal first ++ (between.now ++ (decimal second ++ after.now)))) }
+    ensures { result ≡ ended (before.now ++ (decimal first ++ (between.now ++ (decimal second ++ after.now)))) }
 {
-    let mut text = Text::new();
+    let mut text = Line::new();
     text.push_all(before);
     text.push_number(first);
     text.push_all(between);
@@ -205,10 +204,10 @@ fn hex_bytes(word: u32) -> [u8; 11]
     ]
 }
 
-fn send(rows: RowSet) -> Text
-    ensures { text_of result ≡ ended (sent rows.word) }
+fn send(rows: RowSet) -> Line
+    ensures { result ≡ ended (sent rows.word) }
 {
-    let mut text = Text::new();
+    let mut text = Line::new();
     text.push_all(b"(send ");
     text.push_all(&hex_bytes(rows.word));
     text.push_all(b")\n");
@@ -216,8 +215,8 @@ fn send(rows: RowSet) -> Text
 }
 
 // A fault of the text with its line and place, any other refusal with the values that the crew needs.
-fn refuse(fault: Fault) -> Text
-    ensures { text_of result ≡ ended (refused fault.line fault.refusal) }
+fn refuse(fault: Fault) -> Line
+    ensures { result ≡ ended (refused fault.line fault.refusal) }
 {
     let line = u64::from(fault.line);
     match fault.refusal {

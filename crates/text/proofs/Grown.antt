@@ -10,16 +10,16 @@ front_again (suc n) [] ys = refl
 front_again (suc n) (x ∷ xs) ys = ap (λ l. x ∷ l) (front_again n xs ys)
 
 -- to grow twice is to grow by both
-pub grown_twice : (text a b : List ℕ) → grown (grown text a) b ≡ grown text (a ++ b)
-grown_twice text a b = front_again 128 (text ++ a) b ∙ ap (λ l. take 128 l) (append_assoc text a b)
+pub grown_twice : (room : ℕ) (text a b : List ℕ) → grown room (grown room text a) b ≡ grown room text (a ++ b)
+grown_twice room text a b = front_again room (text ++ a) b ∙ ap (λ l. take room l) (append_assoc text a b)
 
-pub grown_nothing : (text : List ℕ) → length text ≤ 128 → grown text [] ≡ text
-grown_nothing text short = ap (λ l. take 128 l) (append-nil text) ∙ take_all 128 text short
+pub grown_nothing : (room : ℕ) (text : List ℕ) → length text ≤ room → grown room text [] ≡ text
+grown_nothing room text short = ap (λ l. take room l) (append-nil text) ∙ take_all room text short
 
 -- a text that holds `all` of what was pushed, and then `more`
-pub further : {was is : List ℕ} (all more : List ℕ) → was ≡ grown [] all → is ≡ grown was more → is ≡ grown [] (all ++ more)
-further all more old new = new ∙ ap (λ l. grown l more) old ∙ grown_twice [] all more
+pub further : (room : ℕ) {was is : List ℕ} (all more : List ℕ) → was ≡ grown room [] all → is ≡ grown room was more → is ≡ grown room [] (all ++ more)
+further room all more old new = new ∙ ap (λ l. grown room l more) old ∙ grown_twice room [] all more
 
 -- a short one loses nothing
-pub whole : (text : List ℕ) → length text ≤ 128 → grown [] text ≡ text
-whole text short = take_all 128 text short
+pub whole : (room : ℕ) (text : List ℕ) → length text ≤ room → grown room [] text ≡ text
+whole room text short = take_all room text short

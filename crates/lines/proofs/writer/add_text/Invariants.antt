@@ -1,6 +1,6 @@
 use Rattle.std.proofs.Common.{◌≡◌, [], ◌∷◌, ◌++◌, take}
 use Rattle.std.specs.List.{flat_map}
-use Rattle.text.specs.Texts.{text_of, grown}
+use Rattle.text.specs.Texts.{grown}
 use Rattle.lines.specs.declared.word.Word.TheVariants.{Add}
 use Rattle.lines.specs.Forms.{word_text}
 use Rattle.lines.proofs.Writes.{item}
@@ -8,4 +8,4 @@ use Rattle.lines.proofs.writer.add_text.Given as goal
 
 -- the word, and the items passed so far
 abbrev pub invariant-loop-number : goal.invariant-loop-number
-invariant-loop-number l = text_of l.text ≡ grown [] ((40 ∷ word_text Add) ++ flat_map item (take l.number-index l.number-items))
+invariant-loop-number l = l.text ≡ grown 128 [] ((40 ∷ word_text Add) ++ flat_map item (take l.number-index l.number-items))

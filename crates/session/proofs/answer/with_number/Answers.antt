@@ -9,11 +9,11 @@ returns c =
     let digits = decimal c.args.number in
     let after = c.args.after.now in
     let end = 10 ∷ [] in
-    let first = further [] before c.new-text.ensures c.push_all.ensures in
-    let second = further before digits first c.push_number.ensures in
-    let third = further (before ++ digits) after second c.push_all-2.ensures in
-    further ((before ++ digits) ++ after) end third c.push.ensures
-    ∙ whole (((before ++ digits) ++ after) ++ end) (
+    let first = further 128 [] before c.new-text.ensures c.push_all.ensures in
+    let second = further 128 before digits first c.push_number.ensures in
+    let third = further 128 (before ++ digits) after second c.push_all-2.ensures in
+    further 128 ((before ++ digits) ++ after) end third c.push.ensures
+    ∙ whole 128 (((before ++ digits) ++ after) ++ end) (
     omega (
       arith,
       length-decimal-le 20 c.args.number (omega arith) (omega arith) (omega arith),

@@ -11,13 +11,13 @@ returns c =
     let n = decimal c.args.second in
     let z = c.args.after.now in
     let end = 10 ∷ [] in
-    let one = further [] a c.new-text.ensures c.push_all.ensures in
-    let two = further a m one c.push_number.ensures in
-    let three = further (a ++ m) b two c.push_all-2.ensures in
-    let four = further ((a ++ m) ++ b) n three c.push_number-2.ensures in
-    let five = further (((a ++ m) ++ b) ++ n) z four c.push_all-3.ensures in
-    further ((((a ++ m) ++ b) ++ n) ++ z) end five c.push.ensures
-    ∙ whole (((((a ++ m) ++ b) ++ n) ++ z) ++ end) (
+    let one = further 128 [] a c.new-text.ensures c.push_all.ensures in
+    let two = further 128 a m one c.push_number.ensures in
+    let three = further 128 (a ++ m) b two c.push_all-2.ensures in
+    let four = further 128 ((a ++ m) ++ b) n three c.push_number-2.ensures in
+    let five = further 128 (((a ++ m) ++ b) ++ n) z four c.push_all-3.ensures in
+    further 128 ((((a ++ m) ++ b) ++ n) ++ z) end five c.push.ensures
+    ∙ whole 128 (((((a ++ m) ++ b) ++ n) ++ z) ++ end) (
     omega (
       arith,
       length-decimal-le 20 c.args.first (omega arith) (omega arith) (omega arith),

@@ -1,5 +1,5 @@
 // Reads a line: its shape first, then its items, then its numbers.
-ghost use Rattle.std.specs.Prelude.{◌≡◌, ◌+◌, ◌<◌, ◌≤◌, true, length, is_some, None, Ok};
+ghost use Rattle.std.specs.Prelude.{◌≡◌, ◌∷◌, ◌<◌, ◌≤◌, true, length, is_some, None, Ok};
 ghost use Rattle.bus.specs.Refusals.{answered};
 ghost use Rattle.lines.specs.Parts.{left, last_place};
 ghost use Rattle.lines.specs.Forms.{kinds, front, behind, policy_named, policy, misfit};
@@ -22,34 +22,25 @@ impl Rest<'_> {
         ensures after { left self.new ≡ behind (left self.old) }
         ensures same { self.new.line ≡ self.old.line }
     {
-        let Some(part) = self.next() else {
-            return Err(Refusal::BadItem { place: 1 });
-        };
-        let Some(word) = Word::named(part.text) else {
-            return Err(Refusal::BadItem { place: 1 });
-        };
-        Ok(word)
+        self.next()
+            .and_then(|part| Word::named(part.text))
+            .ok_or(Refusal::BadItem { place: 1 })
     }
 
     // The next item as a number up to `most`.
     fn number(&mut self, most: u16) -> Result<u16, Refusal>
         requires { 0 < length (left self.old) }
         ensures value { Numbered most (left self.old) result }
-        ensures after { left self.new ≡ behind (left self.old) }
-        ensures length { length (left self.new) + 1 ≡ length (left self.old) }
+        ensures after { left self.old ≡ front (left self.old) ∷ left self.new }
     {
         let item = self.next().unwrap();
-        let Some(number) = read_number(item.text, most) else {
-            return Err(Refusal::BadNumber { place: item.place });
-        };
-        Ok(number)
+        read_number(item.text, most).ok_or(Refusal::BadNumber { place: item.place })
     }
 
     fn byte(&mut self) -> Result<u8, Refusal>
         requires { 0 < length (left self.old) }
         ensures value { Numbered 255 (left self.old) result }
-        ensures after { left self.new ≡ behind (left self.old) }
-        ensures length { length (left self.new) + 1 ≡ length (left self.old) }
+        ensures after { left self.old ≡ front (left self.old) ∷ left self.new }
     {
         Ok(self.number(u16::from(u8::MAX))? as u8)
     }
@@ -67,17 +58,12 @@ impl Rest<'_> {
         requires { 5 ≤ length (left self.old) }
         ensures { Figured (left self.old) result }
     {
-        let duration = self.byte()?;
-        let period = self.byte()?;
-        let deadline = self.byte()?;
-        let phase = self.byte()?;
-        let priority = self.byte()?;
         Ok(Figures {
-            duration,
-            period,
-            deadline,
-            phase,
-            priority,
+            duration: self.byte()?,
+            period: self.byte()?,
+            deadline: self.byte()?,
+            phase: self.byte()?,
+            priority: self.byte()?,
         })
     }
 }

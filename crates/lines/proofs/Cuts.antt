@@ -1,10 +1,10 @@
 -- How the first part of what is left is found. Assumes nothing.
-use Rattle.std.proofs.Common.{◌≡◌, ℕ, suc, ◌+◌, ◌-◌, ◌<◌, ◌≤◌, true, false, cond, not, List, [], ◌∷◌, length, take, drop, Some, None, Option, sym, refl, ap, ◌∙◌, inl, inr, arith}
+use Rattle.std.proofs.Common.{◌≡◌, ℕ, suc, ◌+◌, ◌-◌, ◌<◌, ◌≤◌, true, false, cond, not, List, [], ◌∷◌, length, take, drop, Some, None, sym, refl, ap, ◌∙◌, inl, inr, arith}
 use Rattle.std.specs.List.{position, position_or_len}
 use Rattle.std.proofs.lemmas.Bool.{cases_lt, lt-ltb, le-ltb}
 use Rattle.std.proofs.lemmas.List.{take_all, drop-drop, length-drop}
 use Rattle.lines.specs.Signs.{is_end}
-use Rattle.lines.specs.Parts.{Placed, placed, longer, parts}
+use Rattle.lines.specs.Parts.{placed, longer, parts}
 
 -- the first part goes up to the first sign that ends one
 cut : (bs : List ℕ) (p : ℕ) → position_or_len is_end bs < length bs

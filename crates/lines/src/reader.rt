@@ -7,10 +7,11 @@ ghost use Rattle.lines.specs.Reading.{bad_item, unless, word_read, items_read, N
 ghost use Rattle.lines.specs.Laws.{Reads};
 
 use crate::form::Form;
+use crate::name::Name;
 use crate::number::read_number;
 use crate::part::Rest;
 use crate::shape::check_shape;
-use crate::word::{Word, policy_named};
+use crate::word::Word;
 use bus::refusal::Refusal;
 use engine::row::Figures;
 use orders::selector::Selector;
@@ -50,7 +51,7 @@ impl Rest<'_> {
         requires { is_some (policy_named (front (left self.old)).text) ≡ true }
         ensures { result ≡ policy (left self.old) }
     {
-        policy_named(self.next().unwrap().text).unwrap()
+        Selector::named(self.next().unwrap().text).unwrap()
     }
 
     // The figures of a message, from its duration to its priority.

@@ -1,5 +1,4 @@
-use Rattle.std.proofs.Common.{◌≡◌, ◌<◌, length, drop, sym, ap, ◌∙◌, refl, arith, rules}
-use Rattle.lines.specs.Parts.{left}
+use Rattle.std.proofs.Common.{length, sym, ap, ◌∙◌, refl, arith, rules}
 use Rattle.lines.proofs.Cuts.{cut_at, none_at}
 use Rattle.lines.proofs.part.RestIterator.next.Goals as goal
 

@@ -12,22 +12,18 @@ use Rattle.std.proofs.lemmas.List.Folds.{list_all-append}
 use Rattle.bus.specs.Triggers.{trigger_bytes}
 use Rattle.std.proofs.lemmas.List.{at_drop_more}
 use Rattle.text.specs.Texts.{grown}
-use Rattle.text.proofs.Grown.{grown_twice}
+use Rattle.text.proofs.Grown.{pushed}
 use Rattle.session.specs.Printed.{hex_digit, hex_byte, sent, worded, words, AreFit, IsShort}
 
--- what is pushed next is the front of what is left
-pub pushed : (text more after rest : List ℕ) → after ≡ grown 128 text more → grown 128 after rest ≡ grown 128 text (more ++ rest)
-pushed text more after rest is = ap (λ l. grown 128 l rest) is ∙ grown_twice 128 text more rest
-
--- a number behind its words is
+-- a number behind its words is the front of what is left
 pub worded_more : (d : Bor (List ℕ) × ℕ) (ps : List (Bor (List ℕ) × ℕ)) (end : List ℕ) (i : ℕ) (text between after : List ℕ)
     → i < length ps → between ≡ grown 128 text (get_or ps i d).0.now → after ≡ grown 128 between (decimal (get_or ps i d).1)
     → grown 128 after (worded (drop (i + 1) ps) end) ≡ grown 128 text (worded (drop i ps) end)
 worded_more d ps end i text between after inside first second =
     let p = get_or ps i d in
     let rest = worded (drop (i + 1) ps) end in
-    pushed between (decimal p.1) after rest second
-    ∙ pushed text p.0.now between (decimal p.1 ++ rest) first
+    pushed 128 between (decimal p.1) after rest second
+    ∙ pushed 128 text p.0.now between (decimal p.1 ++ rest) first
     ∙ ap (grown 128 text) (sym (at_drop_more (λ qs. worded qs end) ps i d inside))
 
 worded_length : (ps : List (Bor (List ℕ) × ℕ)) (end : List ℕ) → AreFit ps → length (worded ps end) ≤ length (words ps end) + 20 * length ps

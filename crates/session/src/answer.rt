@@ -1,7 +1,7 @@
 // An answer to a line, and the line that is printed for it.
 ghost use Rattle.std.specs.Prelude.{◌≡◌, ◌<◌, length, Some};
 ghost use Rattle.std.specs.Str.{IsAscii};
-ghost use Rattle.session.specs.Printed.{IsShort, ended, hex_digit, printed, refused, sent, worded};
+ghost use Rattle.session.specs.Printed.{IsShort, ended, hex_byte, hex_digit, printed, refused, sent, worded};
 
 use bus::refusal::Refusal;
 use bus::rows::RowSet;
@@ -85,6 +85,12 @@ fn hex_digit(value: u8) -> u8
     }
 }
 
+fn hex_byte(byte: u8) -> [u8; 2]
+    ensures { result ≡ hex_byte byte }
+{
+    [hex_digit(byte / 16), hex_digit(byte % 16)]
+}
+
 // A trigger's four bytes, two hexadecimal digits each.
 fn send(rows: RowSet) -> Line
     ensures value { result ≡ sent rows.word }
@@ -95,8 +101,7 @@ fn send(rows: RowSet) -> Line
     text.push_all(b"(send");
     for byte in rows.word.to_le_bytes() {
         text.push(b' ');
-        text.push(hex_digit(byte / 16));
-        text.push(hex_digit(byte % 16));
+        text.push_all(&hex_byte(byte));
     }
     text.push(b')');
     text

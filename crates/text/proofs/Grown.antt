@@ -13,13 +13,6 @@ front_again (suc n) (x ∷ xs) ys = ap (λ l. x ∷ l) (front_again n xs ys)
 pub grown_twice : (room : ℕ) (text a b : List ℕ) → grown room (grown room text a) b ≡ grown room text (a ++ b)
 grown_twice room text a b = front_again room (text ++ a) b ∙ ap (λ l. take room l) (append_assoc text a b)
 
-pub grown_nothing : (room : ℕ) (text : List ℕ) → length text ≤ room → grown room text [] ≡ text
-grown_nothing room text short = ap (λ l. take room l) (append-nil text) ∙ take_all room text short
-
--- a text that holds `all` of what was pushed, and then `more`
-pub further : (room : ℕ) {was is : List ℕ} (all more : List ℕ) → was ≡ grown room [] all → is ≡ grown room was more → is ≡ grown room [] (all ++ more)
-further room all more old new = new ∙ ap (λ l. grown room l more) old ∙ grown_twice room [] all more
-
--- a short one loses nothing
-pub whole : (room : ℕ) (text : List ℕ) → length text ≤ room → grown room [] text ≡ text
-whole room text short = take_all room text short
+-- what is pushed next is the front of what is left
+pub pushed : (room : ℕ) (text more after rest : List ℕ) → after ≡ grown room text more → grown room after rest ≡ grown room text (more ++ rest)
+pushed room text more after rest is = ap (λ l. grown room l rest) is ∙ grown_twice room text more rest

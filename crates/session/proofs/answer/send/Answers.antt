@@ -1,9 +1,10 @@
-use Rattle.std.proofs.Common.{◌≡◌, ◌+◌, ◌/◌, ◌%◌, ◌<◌, length, codes, subst, [], ◌∷◌, ◌++◌, get_or, drop, sym, ap, ◌∙◌, arith}
+use Rattle.std.proofs.Common.{◌≡◌, ◌+◌, ◌<◌, length, codes, subst, [], ◌∷◌, ◌++◌, get_or, drop, sym, ap, ◌∙◌, arith}
 use Rattle.std.proofs.lemmas.List.{at_drop_more, at_drop_all}
 use Rattle.text.specs.Texts.{grown}
 use Rattle.std.specs.Str.{IsAscii}
-use Rattle.session.specs.Printed.{hex_digit, sent}
-use Rattle.session.proofs.Texts.{digits, pushed, sent_ascii}
+use Rattle.session.specs.Printed.{hex_byte, sent}
+use Rattle.text.proofs.Grown.{pushed}
+use Rattle.session.proofs.Texts.{digits, sent_ascii}
 use Rattle.session.proofs.answer.send.Goals as goal
 
 pub loop-byte-preserved : goal.loop-byte-preserved
@@ -12,9 +13,8 @@ loop-byte-preserved c =
     let i = c.loop-byte.byte-index in
     let b = get_or items i 0 in
     let rest = digits (drop (i + 1) items) in
-    pushed c.push-in-loop-byte.new.self (hex_digit (b % 16) ∷ []) _ rest (c.push-in-loop-byte-2.ensures ∙ ap (λ d. grown 128 c.push-in-loop-byte.new.self (d ∷ [])) c.hex_digit-in-loop-byte.ensures)
-    ∙ pushed c.push.new.self (hex_digit (b / 16) ∷ []) _ (hex_digit (b % 16) ∷ rest) (c.push-in-loop-byte.ensures ∙ ap (λ d. grown 128 c.push.new.self (d ∷ [])) c.hex_digit.ensures)
-    ∙ pushed c.loop-byte.text (32 ∷ []) _ (hex_digit (b / 16) ∷ hex_digit (b % 16) ∷ rest) c.push.ensures
+    pushed 128 c.push.new.self (hex_byte b) _ rest (c.push_all-in-loop-byte.ensures ∙ ap (grown 128 c.push.new.self) c.hex_byte.ensures)
+    ∙ pushed 128 c.loop-byte.text (32 ∷ []) _ (hex_byte b ++ rest) c.push.ensures
     ∙ ap (grown 128 c.loop-byte.text) (sym (at_drop_more digits items i 0 (omega arith)))
     ∙ c.loop-byte.invariant
 

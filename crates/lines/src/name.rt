@@ -25,6 +25,9 @@ pub trait Name: Copy + 'static {
     final fn named(text: &[u8]) -> Option<Self>
         ensures { result ≡ named written text.now every }
     {
-        Self::all().iter().find(|name| name.is_written(text)).copied()
+        Self::all()
+            .iter()
+            .find(|name| name.is_written(text))
+            .copied()
     }
 }

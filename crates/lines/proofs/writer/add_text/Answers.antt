@@ -10,13 +10,6 @@ use Rattle.lines.specs.Spelling.{spell}
 use Rattle.lines.proofs.Writes.{add_short}
 use Rattle.lines.proofs.writer.add_text.Goals as goal
 
-pub loop-number-init : goal.loop-number-init
-loop-number-init c =
-    let rest = closing (map decimal c.add_numbers-number-items.result) in
-    pushed 128 c.push.new.self c.text.result.now _ rest c.push_all.ensures
-    ∙ pushed 128 c.new-text.result (40 ∷ []) _ (c.text.result.now ++ rest) c.push.ensures
-    ∙ (λ i. grown 128 (c.new-text.ensures i) (40 ∷ (c.text.ensures i ++ rest)))
-
 pub loop-number-preserved : goal.loop-number-preserved
 loop-number-preserved c =
     let numbers = c.add_numbers-number-items.result in

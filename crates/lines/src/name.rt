@@ -1,4 +1,4 @@
-// Values that a line names by a word.
+// Values that a line names by a word. `FromStr` takes a `&str`, and a line is bytes.
 ghost use Rattle.std.specs.Prelude.{◌≡◌, ℕ, List};
 ghost use Rattle.std.specs.Str.{bytes_eq};
 ghost use Rattle.lines.specs.Names.{named};

@@ -33,7 +33,8 @@ impl fmt::Display for Answer {
 }
 
 impl Answer {
-    // What the answer says.
+    // What the answer says. Made by hand for `Display` too: `write!` promises its text only where it succeeds, and the
+    // line must always stand.
     fn text(self) -> Line
         ensures value { result ≡ printed self }
         ensures short { length result < 128 }

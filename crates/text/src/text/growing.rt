@@ -71,7 +71,8 @@ impl<const ROOM: usize> Text<ROOM> {
         }
     }
 
-    // A number in decimal, its last digit after those of its tenth.
+    // A number in decimal, its last digit after those of its tenth. By hand, since `write!` promises the digits only
+    // where it succeeds, and no contract says that it does.
     pub fn push_number(&mut self, number: u64)
         ensures { self.new ≡ grown ROOM self.old (decimal number) }
     {

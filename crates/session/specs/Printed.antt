@@ -1,6 +1,7 @@
 -- What is printed for an answer. Assumes nothing.
-use Rattle.std.specs.Prelude.{ℕ, ◌+◌, ◌-◌, ◌/◌, ◌%◌, ◌^◌, ◌<◌, ◌≤◌, IsTrue, cond, List, [], ◌∷◌, ◌++◌, length, codes, decimal, nat_lt}
+use Rattle.std.specs.Prelude.{◌≡◌, ℕ, ◌+◌, ◌-◌, ◌/◌, ◌%◌, ◌^◌, ◌<◌, ◌≤◌, IsTrue, cond, List, [], ◌∷◌, ◌++◌, length, codes, decimal, nat_lt}
 use Rattle.std.specs.Borrow.{Bor}
+use Rattle.std.specs.Str.{IsAscii}
 use Rattle.std.specs.Char.{is_ascii}
 use Rattle.std.specs.List.{list_all}
 use Rattle.bus.specs.Triggers.{trigger_bytes}
@@ -101,3 +102,9 @@ AreFit (p ∷ ps) = (p.1 < 2 ^ 64) × AreFit ps
 -- one or two of them, or none, and few words of plain letters
 abbrev pub IsShort : List (Bor (List ℕ) × ℕ) → List ℕ → Type 0
 IsShort ps end = AreFit ps × (length ps ≤ 2) × (length (words ps end) ≤ 64) × IsTrue (list_all is_ascii (words ps end))
+
+-- the text is this, and is short and has plain letters alone
+pub record Says (text this : List ℕ) : Type 0 where
+  pub value : text ≡ this
+  pub short : length text < 128
+  pub ascii : IsAscii text

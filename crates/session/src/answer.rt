@@ -1,7 +1,6 @@
 // An answer to a line, and the line that is printed for it.
-ghost use Rattle.std.specs.Prelude.{◌≡◌, ◌<◌, length, Some};
-ghost use Rattle.std.specs.Str.{IsAscii};
-ghost use Rattle.session.specs.Printed.{IsShort, ended, hex_byte, hex_digit, printed, refused, sent, worded};
+ghost use Rattle.std.specs.Prelude.{◌≡◌, ◌<◌, Some};
+ghost use Rattle.session.specs.Printed.{IsShort, Says, ended, hex_byte, hex_digit, printed, refused, sent, worded};
 
 use bus::refusal::Refusal;
 use bus::rows::RowSet;
@@ -36,9 +35,7 @@ impl Answer {
     // What the answer says. Made by hand for `Display` too: `write!` promises its text only where it succeeds, and the
     // line must always stand.
     fn text(self) -> Line
-        ensures value { result ≡ printed self }
-        ensures short { length result < 128 }
-        ensures ascii { IsAscii result }
+        ensures { Says result (printed self) }
     {
         match self {
             Answer::Made => worded(&[], b"(ok)"),
@@ -62,9 +59,7 @@ impl Answer {
 // Numbers, each behind its words, and the last words.
 fn worded(numbered: &[(&[u8], u64)], end: &[u8]) -> Line
     requires { IsShort numbered.now end.now }
-    ensures value { result ≡ worded numbered.now end.now }
-    ensures short { length result < 128 }
-    ensures ascii { IsAscii result }
+    ensures { Says result (worded numbered.now end.now) }
 {
     let mut text = Line::new();
     for (words, number) in numbered {
@@ -94,9 +89,7 @@ fn hex_byte(byte: u8) -> [u8; 2]
 
 // A trigger's four bytes, two hexadecimal digits each.
 fn send(rows: RowSet) -> Line
-    ensures value { result ≡ sent rows.word }
-    ensures short { length result < 128 }
-    ensures ascii { IsAscii result }
+    ensures { Says result (sent rows.word) }
 {
     let mut text = Line::new();
     text.push_all(b"(send");
@@ -110,9 +103,7 @@ fn send(rows: RowSet) -> Line
 
 // A fault of the text with its line and place, any other refusal with the values that the crew needs.
 fn refuse(fault: Fault) -> Line
-    ensures value { result ≡ refused fault.line fault.refusal }
-    ensures short { length result < 128 }
-    ensures ascii { IsAscii result }
+    ensures { Says result (refused fault.line fault.refusal) }
 {
     let line = u64::from(fault.line);
     match fault.refusal {

@@ -1,7 +1,6 @@
 pub mod Scan
 pub mod Cuts
 pub mod Sizes
-pub mod Lookups
 pub mod Fits
 pub mod Order
 pub mod Walks

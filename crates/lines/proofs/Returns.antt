@@ -154,12 +154,12 @@ fitting_items [] (t ∷ ts) h = absurd h
 fitting_items (k ∷ ks) [] h = absurd h
 fitting_items (k ∷ ks) (t ∷ ts) h = (h.0.0, fitting_items ks ts h.1)
 
-fitting_fits : (end : ℕ) (ks : List Kind) (ts : List (List ℕ)) (q : ℕ) → Fitting ks ts → (misfit end ks (spread q ts) ≡ None) × (unsound ks (spread q ts) ≡ None)
-fitting_fits end [] [] q h = (refl, refl)
-fitting_fits end [] (t ∷ ts) q h = absurd h
-fitting_fits end (k ∷ ks) [] q h = absurd h
-fitting_fits end (k ∷ ks) (t ∷ ts) q h =
-    let rest = fitting_fits end ks ts (q + length t + 1) h.1 in
+fitting_fits : (last : ℕ) (ks : List Kind) (ts : List (List ℕ)) (q : ℕ) → Fitting ks ts → (misfit last ks (spread q ts) ≡ None) × (unsound ks (spread q ts) ≡ None)
+fitting_fits last [] [] q h = (refl, refl)
+fitting_fits last [] (t ∷ ts) q h = absurd h
+fitting_fits last (k ∷ ks) [] q h = absurd h
+fitting_fits last (k ∷ ks) (t ∷ ts) q h =
+    let rest = fitting_fits last ks ts (q + length t + 1) h.1 in
     (cond-true (takes k t) _ _ h.0.1 ∙ rest.0, cond-true (sound k t) _ _ h.0.2 ∙ rest.1)
 
 byte_fits : (n : ℕ) → n < 256 → IsItem (decimal n) × (takes Byte (decimal n) ≡ true) × (sound Byte (decimal n) ≡ true)

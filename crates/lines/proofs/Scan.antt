@@ -11,10 +11,6 @@ use Rattle.lines.specs.Shapes.{step, misplaced, closed}
 abbrev pub onward : ℕ → List ℕ → Option Stage → Option ℕ
 onward at bs o = elim o [ None ↦ Some at | Some next ↦ misplaced next (at + 1) bs ]
 
--- a sign that can follow
-pub goes_on : (line : List ℕ) (at : ℕ) (stage next : Stage) → at < length line → step stage (sign_of (get_or line at 0)) ≡ Some next → misplaced stage at (drop at line) ≡ misplaced next (at + 1) (drop (at + 1) line)
-goes_on line at stage next lt e = at_drop_more (misplaced stage at) line at 0 lt ∙ ap (onward at (drop (at + 1) line)) e
-
 -- a sign that cannot
 pub stops : (line : List ℕ) (at : ℕ) (stage : Stage) → at < length line → step stage (sign_of (get_or line at 0)) ≡ None → misplaced stage at (drop at line) ≡ Some at
 stops line at stage lt e = at_drop_more (misplaced stage at) line at 0 lt ∙ ap (onward at (drop (at + 1) line)) e

@@ -19,3 +19,6 @@ ends_part Space = true
 ends_part Open = false
 ends_part Close = true
 ends_part Other = false
+
+abbrev pub is_end : ℕ → Bool
+is_end b = ends_part (sign_of b)

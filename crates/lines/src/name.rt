@@ -1,22 +1,33 @@
-// Values that a line names by a word.
+// Values that a line names by a word. `FromStr` takes a `&str`, and a line is bytes.
 ghost use Rattle.std.specs.Prelude.{◌≡◌, ℕ, List};
+ghost use Rattle.std.specs.Str.{bytes_eq};
 ghost use Rattle.lines.specs.Names.{named};
 
-pub trait Name: Copy {
+pub trait Name: Copy + 'static {
     ghost written: { Self → List ℕ };
+
+    // All values, in the order in which they are looked for.
+    ghost every: { List Self };
 
     fn text(self) -> &'static [u8]
         ensures { result.now ≡ written self };
-}
 
-// The first of these that is written so.
-pub fn find<N: Name>(all: &[N], text: &[u8]) -> Option<N>
-    ensures { result ≡ named N.Name.written text.now all.now }
-{
-    for name in all {
-        if text == name.text() {
-            return Some(*name);
-        }
+    fn all() -> &'static [Self]
+        ensures { result.now ≡ every };
+
+    final fn is_written(self, text: &[u8]) -> bool
+        ensures { result ≡ bytes_eq text.now (written self) }
+    {
+        text == self.text()
     }
-    None
+
+    // The first that is written so.
+    final fn named(text: &[u8]) -> Option<Self>
+        ensures { result ≡ named written text.now every }
+    {
+        Self::all()
+            .iter()
+            .find(|name| name.is_written(text))
+            .copied()
+    }
 }

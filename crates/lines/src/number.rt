@@ -22,8 +22,5 @@ pub fn read_number(digits: &[u8], most: u16) -> Option<u16>
 fn has_needless_zero(digits: &[u8]) -> bool
     ensures { result ≡ needless digits.now }
 {
-    match digits {
-        [first, _, ..] => *first == b'0',
-        _ => false,
-    }
+    matches!(digits, [b'0', _, ..])
 }

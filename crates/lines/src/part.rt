@@ -1,7 +1,9 @@
 // The words and numbers of a line, one after another.
-ghost use Rattle.std.specs.Prelude.{◌≡◌, ◌-◌, [], ◌∷◌, length, drop, MatchOption};
-ghost use Rattle.lines.specs.Signs.{sign_of, ends_part};
-ghost use Rattle.lines.specs.Parts.{parts, left, seen, last_place, Ended};
+ghost use Rattle.std.specs.Prelude.{◌≡◌, ◌-◌, length, drop};
+ghost use Rattle.std.specs.List.{position};
+ghost use Rattle.std.specs.Iterator.{at_most};
+ghost use Rattle.lines.specs.Signs.{is_end};
+ghost use Rattle.lines.specs.Parts.{parts, left, last_place, Takes};
 
 use crate::sign::classify;
 
@@ -20,21 +22,16 @@ pub struct Rest<'a> {
 }
 
 fn ends_part(byte: u8) -> bool
-    ensures { result ≡ ends_part (sign_of byte) }
+    ensures { result ≡ is_end byte }
 {
     classify(byte as char).ends_part()
 }
 
-// The place where the part that begins at `from` ends.
-fn part_end(line: &[u8], from: usize) -> Option<usize>
-    ensures { Ended line.now from result }
+// How many of these bytes the part has that begins with the first.
+fn part_len(rest: &[u8]) -> Option<usize>
+    ensures { result ≡ position is_end rest.now }
 {
-    for at in from..line.len() {
-        if ends_part(line[at]) {
-            return Some(at);
-        }
-    }
-    None
+    rest.iter().position(|byte| ends_part(*byte))
 }
 
 impl<'a> Rest<'a> {
@@ -52,17 +49,23 @@ impl<'a> Rest<'a> {
     {
         self.line.len().saturating_sub(1)
     }
+}
 
-    pub fn next(&mut self) -> Option<Part<'a>>
-        ensures takes { MatchOption result ((left self.old ≡ []) × (left self.new ≡ [])) (λ p. left self.old ≡ seen p ∷ left self.new) }
-        ensures same { self.new.line ≡ self.old.line }
-    {
-        let end = part_end(self.line, self.at)?;
+impl<'a> Iterator for Rest<'a> {
+    type Item = Part<'a>;
+
+    ghost next_gives = { Takes };
+
+    ghost remaining = { λ rest. at_most (length (left rest)) };
+
+    fn next(&mut self) -> Option<Part<'a>> {
+        let rest = self.line.get(self.at..)?;
+        let len = part_len(rest)?;
         let part = Part {
             place: self.at,
-            text: &self.line[self.at..end],
+            text: &rest[..len],
         };
-        self.at = end + 1;
+        self.at += len + 1;
         Some(part)
     }
 }

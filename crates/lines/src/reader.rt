@@ -1,5 +1,5 @@
 // Reads a line: its shape first, then its items, then its numbers.
-ghost use Rattle.std.specs.Prelude.{◌≡◌, ◌+◌, ◌<◌, ◌≤◌, true, length, is_some, None, Ok};
+ghost use Rattle.std.specs.Prelude.{◌≡◌, ◌∷◌, ◌<◌, ◌≤◌, true, length, is_some, None, Ok};
 ghost use Rattle.bus.specs.Refusals.{answered};
 ghost use Rattle.lines.specs.Parts.{left, last_place};
 ghost use Rattle.lines.specs.Forms.{kinds, front, behind, policy_named, policy, misfit};
@@ -7,10 +7,11 @@ ghost use Rattle.lines.specs.Reading.{bad_item, unless, word_read, items_read, N
 ghost use Rattle.lines.specs.Laws.{Reads};
 
 use crate::form::Form;
+use crate::name::Name;
 use crate::number::read_number;
 use crate::part::Rest;
 use crate::shape::check_shape;
-use crate::word::{Word, policy_named};
+use crate::word::Word;
 use bus::refusal::Refusal;
 use engine::row::Figures;
 use orders::selector::Selector;
@@ -22,34 +23,25 @@ impl Rest<'_> {
         ensures after { left self.new ≡ behind (left self.old) }
         ensures same { self.new.line ≡ self.old.line }
     {
-        let Some(part) = self.next() else {
-            return Err(Refusal::BadItem { place: 1 });
-        };
-        let Some(word) = Word::named(part.text) else {
-            return Err(Refusal::BadItem { place: 1 });
-        };
-        Ok(word)
+        self.next()
+            .and_then(|part| Word::named(part.text))
+            .ok_or(Refusal::BadItem { place: 1 })
     }
 
     // The next item as a number up to `most`.
     fn number(&mut self, most: u16) -> Result<u16, Refusal>
         requires { 0 < length (left self.old) }
         ensures value { Numbered most (left self.old) result }
-        ensures after { left self.new ≡ behind (left self.old) }
-        ensures length { length (left self.new) + 1 ≡ length (left self.old) }
+        ensures after { left self.old ≡ front (left self.old) ∷ left self.new }
     {
         let item = self.next().unwrap();
-        let Some(number) = read_number(item.text, most) else {
-            return Err(Refusal::BadNumber { place: item.place });
-        };
-        Ok(number)
+        read_number(item.text, most).ok_or(Refusal::BadNumber { place: item.place })
     }
 
     fn byte(&mut self) -> Result<u8, Refusal>
         requires { 0 < length (left self.old) }
         ensures value { Numbered 255 (left self.old) result }
-        ensures after { left self.new ≡ behind (left self.old) }
-        ensures length { length (left self.new) + 1 ≡ length (left self.old) }
+        ensures after { left self.old ≡ front (left self.old) ∷ left self.new }
     {
         Ok(self.number(u16::from(u8::MAX))? as u8)
     }
@@ -59,7 +51,7 @@ impl Rest<'_> {
         requires { is_some (policy_named (front (left self.old)).text) ≡ true }
         ensures { result ≡ policy (left self.old) }
     {
-        policy_named(self.next().unwrap().text).unwrap()
+        Selector::named(self.next().unwrap().text).unwrap()
     }
 
     // The figures of a message, from its duration to its priority.
@@ -67,17 +59,12 @@ impl Rest<'_> {
         requires { 5 ≤ length (left self.old) }
         ensures { Figured (left self.old) result }
     {
-        let duration = self.byte()?;
-        let period = self.byte()?;
-        let deadline = self.byte()?;
-        let phase = self.byte()?;
-        let priority = self.byte()?;
         Ok(Figures {
-            duration,
-            period,
-            deadline,
-            phase,
-            priority,
+            duration: self.byte()?,
+            period: self.byte()?,
+            deadline: self.byte()?,
+            phase: self.byte()?,
+            priority: self.byte()?,
         })
     }
 }

@@ -48,6 +48,7 @@ impl Stage {
     }
 }
 
+// The place is counted by hand: a line that ends too early is at fault at its end, where an iterator gives no item.
 #[derive(Drop)]
 struct Reader<'a> {
     line: &'a [u8],

@@ -1,8 +1,8 @@
 // The words of the forms, and the items that follow each.
 ghost use Rattle.std.specs.Prelude.{◌≡◌};
-ghost use Rattle.lines.specs.Forms.{word_text, policy_text, word_named, policy_named, kinds, takes, is_number};
+ghost use Rattle.lines.specs.Forms.{word_text, words, policy_text, policies, kinds, takes, is_number};
 
-use crate::name::{Name, find};
+use crate::name::Name;
 use orders::selector::Selector;
 
 #[derive(Clone, Copy)]
@@ -27,26 +27,10 @@ pub enum Kind {
     PolicyName,
 }
 
-const WORDS: [Word; 8] = [
-    Word::Window,
-    Word::Policy,
-    Word::Drop,
-    Word::Next,
-    Word::Which,
-    Word::Frame,
-    Word::Add,
-    Word::Alter,
-];
-
-const POLICIES: [Selector; 4] = [
-    Selector::RateMonotonic,
-    Selector::DeadlineMonotonic,
-    Selector::FixedPriority,
-    Selector::EarliestDeadline,
-];
-
 impl Name for Selector {
     ghost written = { policy_text };
+
+    ghost every = { policies };
 
     fn text(self) -> &'static [u8] {
         match self {
@@ -56,10 +40,21 @@ impl Name for Selector {
             Selector::EarliestDeadline => b"edf",
         }
     }
+
+    fn all() -> &'static [Selector] {
+        &[
+            Selector::RateMonotonic,
+            Selector::DeadlineMonotonic,
+            Selector::FixedPriority,
+            Selector::EarliestDeadline,
+        ]
+    }
 }
 
 impl Name for Word {
     ghost written = { word_text };
+
+    ghost every = { words };
 
     fn text(self) -> &'static [u8] {
         match self {
@@ -73,21 +68,22 @@ impl Name for Word {
             Word::Alter => b"alter",
         }
     }
-}
 
-pub fn policy_named(text: &[u8]) -> Option<Selector>
-    ensures { result ≡ policy_named text.now }
-{
-    find(&POLICIES, text)
+    fn all() -> &'static [Word] {
+        &[
+            Word::Window,
+            Word::Policy,
+            Word::Drop,
+            Word::Next,
+            Word::Which,
+            Word::Frame,
+            Word::Add,
+            Word::Alter,
+        ]
+    }
 }
 
 impl Word {
-    pub fn named(text: &[u8]) -> Option<Word>
-        ensures { result ≡ word_named text.now }
-    {
-        find(&WORDS, text)
-    }
-
     // The items that follow the word, in their order.
     pub fn kinds(self) -> &'static [Kind]
         ensures { result.now ≡ kinds self }
@@ -97,14 +93,7 @@ impl Word {
             Word::Policy => &[Kind::PolicyName],
             Word::Which => &[],
             Word::Frame => &[Kind::HalfWord, Kind::Byte],
-            Word::Add | Word::Alter => &[
-                Kind::Byte,
-                Kind::Byte,
-                Kind::Byte,
-                Kind::Byte,
-                Kind::Byte,
-                Kind::Byte,
-            ],
+            Word::Add | Word::Alter => &[Kind::Byte; 6],
         }
     }
 }
@@ -116,7 +105,7 @@ impl Kind {
     {
         match self {
             Kind::Byte | Kind::HalfWord => is_number(text),
-            Kind::PolicyName => policy_named(text).is_some(),
+            Kind::PolicyName => Selector::named(text).is_some(),
         }
     }
 }
@@ -125,8 +114,5 @@ impl Kind {
 fn is_number(text: &[u8]) -> bool
     ensures { result ≡ is_number text.now }
 {
-    match text.first() {
-        Some(byte) => byte.is_ascii_digit(),
-        None => false,
-    }
+    matches!(text, [b'0'..=b'9', ..])
 }

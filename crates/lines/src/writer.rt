@@ -4,7 +4,6 @@ ghost use Rattle.engine.specs.Held.{slots};
 ghost use Rattle.ftt.specs.Questions.{asked};
 ghost use Rattle.lines.specs.declared.form.Form.TheVariants.{Add};
 ghost use Rattle.lines.specs.Spelling.{spell};
-ghost use Rattle.text.specs.Texts.{text_of};
 ghost use Rattle.lines.specs.Writing.{add_numbers, Writes};
 
 use crate::name::Name;
@@ -12,32 +11,31 @@ use crate::word::Word;
 use bus::refusal::Refusal;
 use engine::row::Figures;
 use ftt::master::Master;
-use text::text::Text;
+use text::text::Line;
 
 // The numbers of the add form, in their order.
-fn add_numbers(row: u8, figures: Figures) -> [u16; 6]
+fn add_numbers(row: u8, figures: Figures) -> [u8; 6]
     ensures { result ≡ add_numbers row figures }
 {
     [
-        u16::from(row),
-        u16::from(figures.duration),
-        u16::from(figures.period),
-        u16::from(figures.deadline),
-        u16::from(figures.phase),
-        u16::from(figures.priority),
+        row,
+        figures.duration,
+        figures.period,
+        figures.deadline,
+        figures.phase,
+        figures.priority,
     ]
 }
 
-fn add_text(row: u8, figures: Figures) -> Text
-    ensures { text_of result ≡ spell (Add row figures) }
+fn add_text(row: u8, figures: Figures) -> Line
+    ensures { result ≡ spell (Add row figures) }
 {
-    let numbers = add_numbers(row, figures);
-    let mut text = Text::new();
+    let mut text = Line::new();
     text.push(b'(');
     text.push_all(Word::Add.text());
-    for number in &numbers {
+    for number in add_numbers(row, figures) {
         text.push(b' ');
-        text.push_number(u64::from(*number));
+        text.push_number(u64::from(number));
     }
     text.push(b')');
     text

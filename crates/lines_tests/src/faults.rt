@@ -8,28 +8,20 @@ use std::process::Abort;
 // A line and the place of its fault.
 type Case = (&'static [u8], usize);
 
-fn bad_signs(rt: &impl Abort, cases: &[Case]) {
+// Each line is at fault, by this refusal of the place.
+fn faults<F: Fn(usize) -> Refusal + Drop>(rt: &impl Abort, refusal: F, cases: &[Case])
+    requires { F.IsAlwaysCallable refusal }
+{
     for (line, place) in cases {
-        assert_eq!(rt; read_form(line), Err(Refusal::BadSign { place: *place }));
-    }
-}
-
-fn bad_items(rt: &impl Abort, cases: &[Case]) {
-    for (line, place) in cases {
-        assert_eq!(rt; read_form(line), Err(Refusal::BadItem { place: *place }));
-    }
-}
-
-fn bad_numbers(rt: &impl Abort, cases: &[Case]) {
-    for (line, place) in cases {
-        assert_eq!(rt; read_form(line), Err(Refusal::BadNumber { place: *place }));
+        assert_eq!(rt; read_form(line), Err(refusal(*place)));
     }
 }
 
 #[test]
 fn ends_early(rt: HostRuntime) {
-    bad_signs(
+    faults(
         &rt,
+        |place| Refusal::BadSign { place },
         &[
             (b"", 0),
             (b"(", 1),
@@ -42,8 +34,9 @@ fn ends_early(rt: HostRuntime) {
 
 #[test]
 fn signs_out_of_place(rt: HostRuntime) {
-    bad_signs(
+    faults(
         &rt,
+        |place| Refusal::BadSign { place },
         &[
             (b"next 1)", 0),
             (b"(which)x", 7),
@@ -62,8 +55,9 @@ fn signs_out_of_place(rt: HostRuntime) {
 
 #[test]
 fn bytes_that_are_no_signs(rt: HostRuntime) {
-    bad_signs(
+    faults(
         &rt,
+        |place| Refusal::BadSign { place },
         &[
             (b"(which)\r", 7),
             (b"(next 1\r)", 7),
@@ -78,13 +72,18 @@ fn bytes_that_are_no_signs(rt: HostRuntime) {
 
 #[test]
 fn the_shape_goes_first(rt: HostRuntime) {
-    bad_signs(&rt, &[(b"(foo 1", 6), (b"(window 999 )", 12)]);
+    faults(
+        &rt,
+        |place| Refusal::BadSign { place },
+        &[(b"(foo 1", 6), (b"(window 999 )", 12)],
+    );
 }
 
 #[test]
 fn unknown_words(rt: HostRuntime) {
-    bad_items(
+    faults(
         &rt,
+        |place| Refusal::BadItem { place },
         &[
             (b"(foo)", 1),
             (b"(windows 1)", 1),
@@ -96,8 +95,9 @@ fn unknown_words(rt: HostRuntime) {
 
 #[test]
 fn wrong_items(rt: HostRuntime) {
-    bad_items(
+    faults(
         &rt,
+        |place| Refusal::BadItem { place },
         &[
             (b"(frame x 1)", 7),
             (b"(frame 1 x)", 9),
@@ -111,8 +111,9 @@ fn wrong_items(rt: HostRuntime) {
 
 #[test]
 fn surplus_items(rt: HostRuntime) {
-    bad_items(
+    faults(
         &rt,
+        |place| Refusal::BadItem { place },
         &[
             (b"(frame 2500 1 2)", 14),
             (b"(which 1)", 7),
@@ -123,8 +124,9 @@ fn surplus_items(rt: HostRuntime) {
 
 #[test]
 fn too_few_items(rt: HostRuntime) {
-    bad_items(
+    faults(
         &rt,
+        |place| Refusal::BadItem { place },
         &[
             (b"(frame 2500)", 11),
             (b"(window)", 7),
@@ -137,13 +139,18 @@ fn too_few_items(rt: HostRuntime) {
 
 #[test]
 fn items_go_before_numbers(rt: HostRuntime) {
-    bad_items(&rt, &[(b"(frame 99999 x)", 13), (b"(frame 01)", 9)]);
+    faults(
+        &rt,
+        |place| Refusal::BadItem { place },
+        &[(b"(frame 99999 x)", 13), (b"(frame 01)", 9)],
+    );
 }
 
 #[test]
 fn numbers(rt: HostRuntime) {
-    bad_numbers(
+    faults(
         &rt,
+        |place| Refusal::BadNumber { place },
         &[
             (b"(frame 65536 8)", 7),
             (b"(frame 2500 256)", 12),
@@ -160,11 +167,7 @@ fn numbers(rt: HostRuntime) {
 }
 
 fn first_lines() -> Result<Form, Fault> {
-    let second = match read_form(b"(next)") {
-        Ok(form) => Ok(form),
-        Err(refusal) => Err((2, refusal)),
-    };
-    Ok(second?)
+    Ok(read_form(b"(next)").map_err(|refusal| (2, refusal))?)
 }
 
 #[test]

@@ -1,5 +1,9 @@
 -- What is printed for an answer. Assumes nothing.
-use Rattle.std.specs.Prelude.{ℕ, ◌+◌, ◌-◌, ◌/◌, ◌%◌, cond, List, [], ◌∷◌, ◌++◌, codes, decimal, nat_lt}
+use Rattle.std.specs.Prelude.{◌≡◌, ℕ, ◌+◌, ◌-◌, ◌/◌, ◌%◌, ◌^◌, ◌<◌, ◌≤◌, IsTrue, cond, List, [], ◌∷◌, ◌++◌, length, codes, decimal, nat_lt}
+use Rattle.std.specs.Borrow.{Bor}
+use Rattle.std.specs.Str.{IsAscii}
+use Rattle.std.specs.Char.{is_ascii}
+use Rattle.std.specs.List.{list_all}
 use Rattle.bus.specs.Triggers.{trigger_bytes}
 use Rattle.bus.specs.Refusals.{told, field_number}
 use Rattle.bus.specs.declared.refusal.Refusal.{Refusal}
@@ -79,3 +83,28 @@ printed (Refused f) = refused f.line f.refusal
 -- a line with its end
 abbrev pub ended : List ℕ → List ℕ
 ended text = text ++ 10 ∷ []
+
+-- numbers, each behind its words, and the last words
+abbrev pub worded : List (Bor (List ℕ) × ℕ) → List ℕ → List ℕ
+worded [] end = end
+worded (p ∷ ps) end = p.0.now ++ (decimal p.1 ++ worded ps end)
+
+-- all the words of such a text
+abbrev pub words : List (Bor (List ℕ) × ℕ) → List ℕ → List ℕ
+words [] end = end
+words (p ∷ ps) end = p.0.now ++ words ps end
+
+-- numbers of 64 bits
+abbrev pub AreFit : List (Bor (List ℕ) × ℕ) → Type 0
+AreFit [] = Unit {0}
+AreFit (p ∷ ps) = (p.1 < 2 ^ 64) × AreFit ps
+
+-- one or two of them, or none, and few words of plain letters
+abbrev pub IsShort : List (Bor (List ℕ) × ℕ) → List ℕ → Type 0
+IsShort ps end = AreFit ps × (length ps ≤ 2) × (length (words ps end) ≤ 64) × IsTrue (list_all is_ascii (words ps end))
+
+-- the text is this, and is short and has plain letters alone
+pub record Says (text this : List ℕ) : Type 0 where
+  pub value : text ≡ this
+  pub short : length text < 128
+  pub ascii : IsAscii text

@@ -8,7 +8,7 @@ ghost use Rattle.ftt.specs.Told.{told_answer};
 ghost use Rattle.bus.specs.Frames.{frame_answer};
 ghost use Rattle.orders.specs.declared.selector.Selector.TheVariants.{RateMonotonic};
 ghost use Rattle.session.specs.Replies.Said.{refused as told_refused};
-ghost use Rattle.session.specs.Replies.{answers, by_answer, by_units, form_said, form_after, leaves, line_said, line_after, said, said_answer, standing_of, taken, told_reply};
+ghost use Rattle.session.specs.Replies.{answers, by_answer, by_units, form_said, form_after, leaves, line_said, line_after, read_said, read_after, said, said_answer, standing_of, taken, told_reply};
 ghost use Rattle.session.specs.Sessions.{EverySession};
 
 use crate::answer::Answer;
@@ -36,20 +36,14 @@ pub struct Session {
 fn changed(answer: Result<(), Refusal>) -> Result<Reply, Refusal>
     ensures { (line : ℕ) → told_reply line result ≡ by_answer line (told_answer answer) }
 {
-    match answer {
-        Ok(()) => Ok(Reply::Line(Answer::Made)),
-        Err(refusal) => Err(refusal),
-    }
+    answer.map(|()| Reply::Line(Answer::Made))
 }
 
 // What a frame takes.
 fn units(cycle_bits: u16, data_bytes: u8) -> Result<Reply, Refusal>
     ensures { (line : ℕ) → told_reply line result ≡ by_units line (frame_answer cycle_bits data_bytes) }
 {
-    match frame_units(cycle_bits, usize::from(data_bytes)) {
-        Ok(units) => Ok(Reply::Line(Answer::Units(units))),
-        Err(refusal) => Err(refusal),
-    }
+    frame_units(cycle_bits, usize::from(data_bytes)).map(|units| Reply::Line(Answer::Units(units)))
 }
 
 // The refusal, with the number of the line that it came from.
@@ -100,6 +94,15 @@ impl Session {
         }
     }
 
+    // Does what a line says.
+    fn take(&mut self, line: &[u8]) -> Result<Reply, Refusal>
+        ensures value { (number : ℕ) → told_reply number result ≡ read_said (standing_of self.old) number (taken line.now) }
+        ensures after { standing_of self.new ≡ read_after (standing_of self.old) (taken line.now) }
+    {
+        let form = read_line(line)?;
+        self.obey(form)
+    }
+
     // Answers the line with this number.
     pub fn answer(&mut self, line: &[u8], number: u32) -> Reply
         ensures value { said result ≡ line_said (standing_of self.old) number line.now }
@@ -108,14 +111,8 @@ impl Session {
         if line.is_empty() {
             return Reply::Nothing;
         }
-        let form = match read_line(line) {
-            Ok(form) => form,
-            Err(refusal) => return refused(number, refusal),
-        };
-        match self.obey(form) {
-            Ok(reply) => reply,
-            Err(refusal) => refused(number, refusal),
-        }
+        self.take(line)
+            .unwrap_or_else(|refusal| refused(number, refusal))
     }
 
     // Runs one cycle; its trigger counts as sent.

@@ -10,16 +10,9 @@ front_again (suc n) [] ys = refl
 front_again (suc n) (x ∷ xs) ys = ap (λ l. x ∷ l) (front_again n xs ys)
 
 -- to grow twice is to grow by both
-pub grown_twice : (text a b : List ℕ) → grown (grown text a) b ≡ grown text (a ++ b)
-grown_twice text a b = front_again 128 (text ++ a) b ∙ ap (λ l. take 128 l) (append_assoc text a b)
+pub grown_twice : (room : ℕ) (text a b : List ℕ) → grown room (grown room text a) b ≡ grown room text (a ++ b)
+grown_twice room text a b = front_again room (text ++ a) b ∙ ap (λ l. take room l) (append_assoc text a b)
 
-pub grown_nothing : (text : List ℕ) → length text ≤ 128 → grown text [] ≡ text
-grown_nothing text short = ap (λ l. take 128 l) (append-nil text) ∙ take_all 128 text short
-
--- a text that holds `all` of what was pushed, and then `more`
-pub further : {was is : List ℕ} (all more : List ℕ) → was ≡ grown [] all → is ≡ grown was more → is ≡ grown [] (all ++ more)
-further all more old new = new ∙ ap (λ l. grown l more) old ∙ grown_twice [] all more
-
--- a short one loses nothing
-pub whole : (text : List ℕ) → length text ≤ 128 → grown [] text ≡ text
-whole text short = take_all 128 text short
+-- what is pushed next is the front of what is left
+pub pushed : (room : ℕ) (text more after rest : List ℕ) → after ≡ grown room text more → grown room after rest ≡ grown room text (more ++ rest)
+pushed room text more after rest is = ap (λ l. grown room l rest) is ∙ grown_twice room text more rest

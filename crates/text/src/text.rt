@@ -1,14 +1,24 @@
-// A text of at most 128 bytes: a line that is read or written.
-ghost use Rattle.std.specs.Prelude.{◌≡◌, ◌≤◌, length};
+// A text of at most ROOM bytes.
+ghost use Rattle.std.specs.Prelude.{◌≤◌, ℕ, List, take};
 
 mod growing;
 
-pub const MOST_BYTES: usize = 128;
+use std::marker::Model;
 
 #[derive(Drop)]
-pub struct Text {
-    bytes: [u8; MOST_BYTES],
+pub struct Text<const ROOM: usize> {
+    bytes: [u8; ROOM],
     len: usize,
-    ghost long: { length bytes ≡ 128 },
-    ghost within: { len ≤ 128 },
 }
+
+// Clauses see the bytes that it holds.
+impl<const ROOM: usize> Model for Text<ROOM> {
+    ghost Value = { List ℕ };
+
+    ghost view = { λ text. take text.len text.bytes };
+
+    ghost invariant = { λ text. text.len ≤ ROOM };
+}
+
+// A line that is printed or written.
+pub type Line = Text<128>;

@@ -1,5 +1,5 @@
-use Rattle.std.proofs.Common.{◌+◌, ◌*◌, sym, arith}
-use Rattle.lines.proofs.Sizes.{digit_more, past, whole}
+use Rattle.std.proofs.Common.{◌+◌, ◌*◌, arith}
+use Rattle.lines.proofs.Sizes.{digit_more, past}
 use Rattle.lines.proofs.number.read_number.Goals as goal
 
 pub returns-then-value-from : goal.returns-then-value-from
@@ -10,13 +10,3 @@ returns-then-value-from c =
     let sub = c.saturating_sub.ensures in
     let same = c.from.ensures in
     past c.args.most (c.loop-digit.value * 10 + c.from.result) (i + 1) bs ((cc)) (omega arith)
-
-pub loop-digit-preserved : goal.loop-digit-preserved
-loop-digit-preserved c =
-    let e = digit_more c.args.digits.now c.loop-digit.value c.loop-digit.digit-index (omega arith) in
-    ((cc), omega arith)
-
-pub returns : goal.returns
-returns c =
-    whole c.args.most c.loop-digit.value c.loop-digit.digit-index c.args.digits.now
-    (sym c.if-has_needless_zero.ensures) c.loop-digit.invariant.0 (omega arith) c.loop-digit.invariant.1

@@ -29,6 +29,11 @@ after_word c =
     ∙ parts_known (parts 1 (drop 1 line)) (length line - 1) word found
     ∙ (λ i. unless bad_item (misfit (end i) (kinds word) (items i)) (items_read word (items i)))
 
+pub read_items-requires : goal.read_items-requires
+read_items-requires c =
+    let rest = c.word.new.self in
+    none_found bad_item (misfit (last_place rest) (kinds c.in_ok-word.word) (left rest)) tt c.in_ok-check_items.ensures
+
 pub returns-in_err-check_shape : goal.returns-in_err-check_shape
 returns-in_err-check_shape c = reads c.args.line.now c.from_residual.result (search rules)
 

@@ -1,11 +1,10 @@
 use Rattle.std.proofs.Common.{◌≡◌, Some, Ok, Err, sym, ap, ◌∙◌}
 use Rattle.std.proofs.lemmas.Result.{err_from_is_err_and}
-use Rattle.std.proofs.lemmas.Bool.{cond-true}
 use Rattle.bus.specs.Refusals.{told as refusal_told}
 use Rattle.lines.specs.declared.shape.Stage.TheVariants.{Opening}
 use Rattle.lines.specs.Shapes.{misplaced}
 use Rattle.lines.specs.Reading.{unless, bad_sign}
-use Rattle.lines.proofs.Scan.{goes_on, goes_over, declines, ends}
+use Rattle.lines.proofs.Scan.{goes_over, declines}
 use Rattle.lines.proofs.shape.check_shape.Goals as goal
 
 pub returns-in_err-stage : goal.returns-in_err-stage
@@ -17,19 +16,7 @@ returns-in_err-stage c =
     let found : misplaced Opening 0 c.args.line.now ≡ Some c.loop-stage.reader.at = cc in
     rw (p.1, p.2) (ap (λ e. Err (refusal_told e)) told.0 ∙ ap (λ o. unless bad_sign o (Ok tt)) (sym found))
 
-pub loop-stage-preserved : goal.loop-stage-preserved
-loop-stage-preserved c =
-    let told = c.in_ok-stage.ensures.takes in
-    let same = c.take.ensures.same in
-    let on = goes_on _ _ _ _ told.0 told.2 in
-    ((cc), (cc))
-
 pub returns-then-reader-line : goal.returns-then-reader-line
 returns-then-reader-line c =
     let e = goes_over c.args.line.now _ c.loop-stage.stage (sym c.loop-stage-test.ensures) c.if-reader-line.true in
-    ap (λ o. unless bad_sign o (Ok tt)) (sym e ∙ c.loop-stage.invariant.1)
-
-pub returns : goal.returns
-returns c =
-    let e = ends c.args.line.now _ c.loop-stage.stage c.if-reader-line.false ∙ cond-true _ _ _ (sym c.loop-stage-test.ensures) in
     ap (λ o. unless bad_sign o (Ok tt)) (sym e ∙ c.loop-stage.invariant.1)

@@ -1,40 +1,33 @@
-use Rattle.std.proofs.Common.{◌≡◌, ◌<◌, [], ◌∷◌, ◌++◌, length, get_or, take, decimal, ap, ◌∙◌, append_assoc, arith}
-use Rattle.std.specs.List.{flat_map}
-use Rattle.std.proofs.lemmas.List.{take_all}
+use Rattle.std.proofs.Common.{◌+◌, [], ◌∷◌, ◌++◌, map, get_or, drop, length, decimal, sym, ap, ◌∙◌, arith}
+use Rattle.std.proofs.lemmas.List.{at_drop_more, at_drop_all, take_all}
 use Rattle.text.specs.Texts.{grown}
-use Rattle.text.proofs.Grown.{further, whole}
-use Rattle.lines.specs.declared.word.Word.TheVariants.{Add}
+use Rattle.text.proofs.Grown.{pushed}
+use Rattle.lines.specs.declared.form.Form.TheVariants.{Add}
+use Rattle.lines.specs.declared.word.Word.TheVariants as word
 use Rattle.lines.specs.Forms.{word_text}
-use Rattle.lines.specs.Writing.{add_numbers}
-use Rattle.lines.proofs.Writes.{item, by_items, item_more, add_short}
+use Rattle.lines.specs.Grammar.{closing, line_of}
+use Rattle.lines.specs.Spelling.{spell}
+use Rattle.lines.proofs.Writes.{add_short}
 use Rattle.lines.proofs.writer.add_text.Goals as goal
-
-pub loop-number-init : goal.loop-number-init
-loop-number-init c =
-    further (40 ∷ []) c.text.result.now (further [] (40 ∷ []) c.new-text.ensures c.push.ensures) c.push_all.ensures
-    ∙ ap (λ l. grown [] (40 ∷ l)) c.text.ensures
 
 pub loop-number-preserved : goal.loop-number-preserved
 loop-number-preserved c =
-    let numbers = c.add_numbers-numbers.result in
+    let numbers = c.add_numbers-number-items.result in
     let i = c.loop-number.number-index in
-    let front = 40 ∷ word_text Add in
-    let sofar = front ++ flat_map item (take i numbers) in
-    let inside : i < length numbers = omega (arith, ap length c.add_numbers-numbers.ensures) in
-    further (sofar ++ 32 ∷ []) (decimal c.from.result) (further sofar (32 ∷ []) c.loop-number.invariant c.push-in-loop-number.ensures) c.push_number.ensures
-    ∙ ap (λ n. grown [] ((sofar ++ 32 ∷ []) ++ decimal n)) c.from.ensures
-    ∙ ap (λ l. grown [] l) (append_assoc sofar (32 ∷ []) (decimal (get_or numbers i 0)) ∙ item_more front numbers i inside)
+    let digits = decimal (get_or numbers i 0) in
+    let between = c.push-in-loop-number.new.self in
+    let rest = closing (map decimal (drop (i + 1) numbers)) in
+    pushed 128 between digits _ rest (c.push_number.ensures ∙ ap (λ n. grown 128 between (decimal n)) c.from.ensures)
+    ∙ pushed 128 c.loop-number.text (32 ∷ []) _ (digits ++ rest) c.push-in-loop-number.ensures
+    ∙ ap (grown 128 c.loop-number.text) (sym (at_drop_more (λ ns. closing (map decimal ns)) numbers i 0 (omega (arith, ap length c.add_numbers-number-items.ensures))))
+    ∙ c.loop-number.invariant
 
 pub returns : goal.returns
 returns c =
-    let numbers = c.add_numbers-numbers.result in
+    let numbers = c.add_numbers-number-items.result in
     let f = c.args.figures in
-    let row = c.args.row in
-    let front = 40 ∷ word_text Add in
-    let all : take c.loop-number.number-index numbers ≡ numbers = take_all _ numbers (omega (arith, ap length c.add_numbers-numbers.ensures)) in
-    further (front ++ flat_map item (take c.loop-number.number-index numbers)) (41 ∷ []) c.loop-number.invariant c.push-2.ensures
-    ∙ ap (λ l. grown [] ((front ++ flat_map item l) ++ 41 ∷ [])) (all ∙ c.add_numbers-numbers.ensures)
-    ∙ whole ((front ++ flat_map item (add_numbers row f)) ++ 41 ∷ []) (
-    add_short row f.duration f.period f.deadline f.phase f.priority (omega arith) (omega arith) (omega arith) (omega arith) (omega arith) (omega arith)
-    )
-    ∙ by_items (word_text Add) (add_numbers row f)
+    c.push-2.ensures
+    ∙ ap (grown 128 c.loop-number.text) (sym (at_drop_all (λ ns. closing (map decimal ns)) numbers c.loop-number.number-index (omega (arith, ap length c.add_numbers-number-items.ensures))))
+    ∙ c.loop-number.invariant
+    ∙ ap (λ ns. grown 128 [] (line_of (word_text word.Add) (map decimal ns))) c.add_numbers-number-items.ensures
+    ∙ take_all 128 (spell (Add c.args.row f)) (add_short c.args.row f (omega arith) (omega arith, omega arith, omega arith, omega arith, omega arith))

@@ -1,11 +1,12 @@
-use Rattle.std.proofs.Common.{◌≡◌, [], ◌∷◌, ◌++◌, take}
-use Rattle.std.specs.List.{flat_map}
-use Rattle.text.specs.Texts.{text_of, grown}
+use Rattle.std.proofs.Common.{◌≡◌, [], map, drop, decimal}
+use Rattle.text.specs.Texts.{grown}
 use Rattle.lines.specs.declared.word.Word.TheVariants.{Add}
 use Rattle.lines.specs.Forms.{word_text}
-use Rattle.lines.proofs.Writes.{item}
+use Rattle.lines.specs.Grammar.{closing, line_of}
 use Rattle.lines.proofs.writer.add_text.Given as goal
 
--- the word, and the items passed so far
+-- with the items that are left it will be the whole line
 abbrev pub invariant-loop-number : goal.invariant-loop-number
-invariant-loop-number l = text_of l.text ≡ grown [] ((40 ∷ word_text Add) ++ flat_map item (take l.number-index l.number-items))
+invariant-loop-number l =
+    grown 128 l.text (closing (map decimal (drop l.number-index l.number-items)))
+    ≡ grown 128 [] (line_of (word_text Add) (map decimal l.number-items))

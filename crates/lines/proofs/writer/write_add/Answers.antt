@@ -9,7 +9,7 @@ pub returns : goal.returns
 returns c =
     let bytes = c.bytes-bytes.result.now in
     let before = c.args.buffer.now in
-    let text : bytes ≡ spell (Add c.args.row c.args.figures) = c.bytes-bytes.ensures ∙ c.add_text-text.ensures in
+    let text : bytes ≡ spell (Add c.args.row c.args.figures) = c.bytes-bytes.ensures.value ∙ c.add_text-text.ensures in
     let copied : c.copy_from_slice.new.self ≡ bytes = c.copy_from_slice.ensures.after in
     let end : length bytes - 0 ≡ length bytes = omega arith in
     let fit : FiguresFit c.args.figures = (omega arith, omega arith, omega arith, omega arith, omega arith) in

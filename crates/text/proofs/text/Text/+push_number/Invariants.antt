@@ -1,4 +1,4 @@
 use Rattle.text.proofs.text.Text.+push_number.Given as goal
 
 abbrev pub decreases-push_number : goal.decreases-push_number
-decreases-push_number l = l.number
+decreases-push_number g l = l.number

@@ -1,9 +1,0 @@
-use Rattle.std.proofs.Common.{[], ◌∷◌, ◌++◌, ◌∙◌, arith, length-append}
-use Rattle.text.proofs.Grown.{further, whole}
-use Rattle.session.proofs.answer.plain.Goals as goal
-
-pub returns : goal.returns
-returns c =
-    let part = c.args.part.now in
-    further part (10 ∷ []) (further [] part c.new-text.ensures c.push_all.ensures) c.push.ensures
-    ∙ whole (part ++ 10 ∷ []) (omega (arith, length-append part (10 ∷ [])))

@@ -1,4 +1,5 @@
-// The table in columns, for cycles in a row.
+// The table in columns, for cycles in a row: so a cycle tests and counts many rows at once. Over the rows themselves
+// (`row_by_row`) it takes longer than a cycle may.
 ghost use Rattle.engine.specs.Columns.{InStep};
 
 use bus::rows::ROWS;

@@ -1,4 +1,4 @@
-// What a rehearsal comes to.
+// What a rehearsal comes to. Three answers, and no `Result`: a rehearsal that finds a late row has not failed.
 
 #[derive(Clone, Copy, PartialEq, Eq, Debug)]
 pub enum Verdict {

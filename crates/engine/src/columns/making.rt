@@ -9,7 +9,8 @@ use bus::rows::ROWS;
 use orders::instance::{Cycles, Instance};
 use std::array;
 
-// What a policy sees of an empty row: its instances, which come seldom, have no cycle left and so never wait.
+// What a policy sees of an empty row: its instances, which come seldom, have no cycle left and so never wait. No
+// `Option`: the columns are read without a test.
 const EMPTY_ROW: Instance = Instance {
     row: 0,
     duration: 0,

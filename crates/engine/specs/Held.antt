@@ -1,5 +1,5 @@
 -- The table as the code holds it, and what the steps of a cycle work out. Assumes nothing.
-use Rattle.std.specs.Prelude.{◌≡◌, ℕ, ◌+◌, ◌-◌, ◌<◌, ◌≤◌, Bool, true, cond, ◌&&◌, List, map, length, get_or, take, Some, None, sum_by, Option, nat_le, slice_index, slice_index_or}
+use Rattle.std.specs.Prelude.{◌≡◌, ℕ, ◌+◌, ◌-◌, ◌<◌, ◌≤◌, Bool, true, cond, List, map, length, get_or, take, Some, None, sum_by, Option, nat_le, slice_index, slice_index_or}
 use Rattle.std.specs.List.{range_with_len}
 use Rattle.std.specs.Option.{option_map}
 use Rattle.std.specs.List.Sorted.{IsPermutation}
@@ -11,7 +11,7 @@ pub use Rattle.engine.specs.Columns.{no_instance}
 use Rattle.engine.specs.declared.columns.Columns.{Columns}
 use Rattle.engine.specs.declared.rules.Rules.{Rules as By}
 use Rattle.engine.specs.Rows.{instance_of, waits, closed, misses}
-use Rattle.engine.specs.Cycle.{Slots, Rules, used_and, waiters, load, fits}
+use Rattle.engine.specs.Cycle.{Slots, Rules, used_and, load, fits}
 
 -- what each row of the list holds; past its end nothing
 abbrev pub slots : List (Option Row) → Slots

@@ -28,11 +28,7 @@ fn one_of(is_due: bool, due: Cycles, other: Cycles) -> Cycles
 }
 
 // One column where a row's wait is over, the other elsewhere.
-fn when_due(
-    waits: &[Cycles; ROWS],
-    due: &[Cycles; ROWS],
-    others: &[Cycles; ROWS],
-) -> [Cycles; ROWS]
+fn when_due(waits: &[Cycles; ROWS], due: &[Cycles; ROWS], others: &[Cycles; ROWS]) -> [Cycles; ROWS]
     ensures { (k : ℕ) → k < 32 → slice_index result k ≡ cond (slice_index waits.now k == 0) (slice_index due.now k) (slice_index others.now k) }
 {
     array::from_fn(|r| one_of(waits[r] == 0, due[r], others[r]))

@@ -14,6 +14,7 @@ pub trait Policy {
     fn goes_before(&self, a: Instance, b: Instance) -> bool
         ensures { result ≡ goes self.now a b };
 
+    // A number and no enum: policies of other crates have labels of their own.
     fn label(&self) -> u8
         ensures { result ≡ label self.now };
 

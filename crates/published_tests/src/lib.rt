@@ -11,49 +11,63 @@ mod tests {
     use orders::keyed::RateMonotonic;
     use std::iter::repeat_n;
 
-    // Some messages of one of the benchmark's types: their period and deadline in cycles.
+    // Messages with the same figures: units, and period and deadline in cycles.
     #[derive(Clone, Copy)]
     struct Group {
-        messages: u8,
+        messages: usize,
+        duration: u8,
         period: u8,
         deadline: u8,
     }
 
+    const FRAME_UNITS: u8 = 23;
+
+    // The benchmark's types.
     const TYPE_A: Group = Group {
         messages: 8,
+        duration: FRAME_UNITS,
         period: 1,
         deadline: 1,
     };
 
     const TYPE_B: Group = Group {
         messages: 2,
+        duration: FRAME_UNITS,
         period: 2,
         deadline: 2,
     };
 
     const TYPE_D: Group = Group {
         messages: 8,
+        duration: FRAME_UNITS,
         period: 10,
         deadline: 4,
     };
 
     const TYPE_E: Group = Group {
         messages: 6,
+        duration: FRAME_UNITS,
         period: 20,
         deadline: 20,
     };
 
     const TYPE_F: Group = Group {
         messages: 6,
+        duration: FRAME_UNITS,
         period: 200,
         deadline: 200,
     };
 
-    const FRAME_UNITS: u8 = 23;
+    const EVERY_ROW: Group = Group {
+        messages: 32,
+        duration: 6,
+        period: 1,
+        deadline: 1,
+    };
 
     fn message(group: Group) -> Figures {
         Figures {
-            duration: FRAME_UNITS,
+            duration: group.duration,
             period: group.period,
             deadline: group.deadline,
             phase: 0,
@@ -67,10 +81,9 @@ mod tests {
         watch: &IdleWatch,
         groups: &[Group],
     ) -> Result<u8, Refusal> {
-        let messages = groups.iter().flat_map(|group| repeat_n(
-            message(*group),
-            usize::from(group.messages),
-        ));
+        let messages = groups
+            .iter()
+            .flat_map(|group| repeat_n(message(*group), group.messages));
         let mut free = 0;
         for (row, figures) in (0..=u8::MAX).zip(messages) {
             master.add(watch, row, figures)?;
@@ -139,25 +152,10 @@ mod tests {
         assert_eq!(rt; first, Some(15));
     }
 
-    // Thirty-two messages of 6 units in every cycle.
-    fn fill_all(master: &mut Master<RateMonotonic>, watch: &IdleWatch) -> Result<(), Refusal> {
-        for row in 0..32 {
-            let figures = Figures {
-                duration: 6,
-                period: 1,
-                deadline: 1,
-                phase: 0,
-                priority: 0,
-            };
-            master.add(watch, row, figures)?;
-        }
-        Ok(())
-    }
-
     #[test]
     fn thirty_two_messages_go_in_every_cycle(rt: HostRuntime) {
         let (mut master, idle) = Master::new(RateMonotonic);
-        let filled = fill_all(&mut master, &idle);
+        let filled = fill(&mut master, &idle, &[EVERY_ROW]);
         let mut watch = idle;
         let mut all_go = true;
         for _ in 0..100 {
@@ -165,7 +163,7 @@ mod tests {
             all_go &= owed.schedule().word == u32::MAX;
             watch = owed.sent();
         }
-        assert_eq!(rt; filled, Ok(()));
+        assert_eq!(rt; filled, Ok(32));
         assert!(rt; all_go);
     }
 }

@@ -1,5 +1,5 @@
 -- The word of the waiting rows, and the comparison of two such words. Assumes nothing.
-use Rattle.std.proofs.Common.{◌≡◌, ℕ, zero, suc, ◌/◌, ◌%◌, ◌^◌, ◌<◌, Bool, true, false, not, ◌&&◌, ◌||◌, eqb, map, length, get_or, sym, refl, ap, ◌∙◌, subst, ap₂, ⊎_elim, arith}
+use Rattle.std.proofs.Common.{◌≡◌, ℕ, zero, suc, ◌/◌, ◌%◌, ◌^◌, ◌<◌, Bool, true, false, List, not, ◌&&◌, ◌||◌, eqb, map, length, get_or, sym, refl, ap, ◌∙◌, subst, ap₂, ⊎_elim, arith}
 use native.Mathlib.Nat.{pow-succ'}
 use lib.Bits.{bit_and, bit_or, and_lt, and_shr, and_mod, or_shr, or_mod}
 use Rattle.std.specs.List.{range_with_len}
@@ -140,3 +140,11 @@ settled_by_members n start end a b is_a is_b =
 pub settled_by_words : (n start end : ℕ) (a b : Slots) → start ≡ waiting_word n a → end ≡ waiting_word n b → every n (within start end) ≡ settled n a b
 settled_by_words n start end a b is_a is_b =
     settled_by_members n start end a b (λ r h. ap (λ w. member w r) is_a ∙ member_waiting n a r h) (λ r h. ap (λ w. member w r) is_b ∙ member_waiting n b r h)
+
+-- a word that is made from a list of tests has their rows
+pub row_of_list : (word : ℕ) (rows : List Bool) (test : ℕ → Bool) → members 32 word ≡ rows → ((k : ℕ) → k < 32 → get_or rows k false ≡ test k) → (k : ℕ) → k < 32 → member word k ≡ test k
+row_of_list word rows test kept each k h = sym (get_or_members 32 word k h) ∙ ap (λ xs. get_or xs k false) kept ∙ each k h
+
+pub word_of_list : (word : ℕ) (rows : List Bool) (test : ℕ → Bool) → word < 2 ^ 32 → members 32 word ≡ rows → ((k : ℕ) → k < 32 → get_or rows k false ≡ test k) → word ≡ word_below 32 test
+unfolding word_below
+word_of_list word rows test few kept each = words_agree 32 word _ few (word_fits test 32) (λ k h. row_of_list word rows test kept each k h ∙ sym (member_word test 32 k h))

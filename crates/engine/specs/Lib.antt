@@ -6,4 +6,5 @@ pub mod Known
 pub mod Load
 pub mod Rehearsal
 pub mod Rows
+pub mod Verdicts
 pub mod Waiting

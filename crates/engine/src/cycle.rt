@@ -20,7 +20,7 @@ pub struct Outcome {
     pub late: Option<u8>,
 }
 
-// Runs one cycle on the rows.
+// Runs one cycle on the rows. The window and the policy apart: the master has them so.
 pub fn run_cycle<P: Policy>(rows: &mut [Option<Row>; ROWS], window: u8, policy: &P) -> Outcome
     ensures after { slots rows.new ≡ cycle (rules_of (P.Policy.goes policy.now) window) (slots rows.old) }
     ensures word { result.schedule.word ≡ word (rules_of (P.Policy.goes policy.now) window) (slots rows.old) }

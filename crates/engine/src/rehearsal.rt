@@ -3,9 +3,8 @@ ghost use Rattle.std.specs.Prelude.{◌≡◌, ℕ, ◌+◌, ◌^◌, ◌<◌, S
 ghost use Rattle.std.specs.Option.{unwrap_or};
 ghost use Rattle.engine.specs.Cycle.{Slots};
 ghost use Rattle.engine.specs.Held.{slots, rules_of, rules_by};
-ghost use Rattle.engine.specs.Comparison.{Sound, Calm, FirstLate};
-ghost use Rattle.engine.specs.Rehearsal.{lead_in, stretch, rounds, verdict, rehearsed};
-ghost use Rattle.engine.specs.declared.verdict.Verdict.TheVariants.{Settled, Late};
+ghost use Rattle.engine.specs.Rehearsal.{lead_in, stretch, rounds, verdict};
+ghost use Rattle.engine.specs.Verdicts.{Foretells};
 ghost use Rattle.engine.specs.declared.verdict.Verdict.{Verdict as Decided};
 
 use crate::columns::Columns;
@@ -89,9 +88,7 @@ pub(crate) fn rehearse_on<T: Running, P: Policy>(
     rules: &Rules<P>,
 ) -> Option<Verdict>
     requires { T.shows table.old (slots rows.now) }
-    ensures value { result ≡ rehearsed (rules_by P.Policy.goes rules.now) 5040 (slots rows.now) }
-    ensures calm { Sound (slots rows.now) → result ≡ Some Settled → Calm (rules_by P.Policy.goes rules.now) (slots rows.now) }
-    ensures late { (row cycle : ℕ) → result ≡ Some (Late row cycle) → FirstLate (rules_by P.Policy.goes rules.now) (slots rows.now) row cycle }
+    ensures { Foretells (rules_by P.Policy.goes rules.now) (slots rows.now) result }
 {
     let round = round_of(rows)?;
     Some(judge(table, rules, lead_in(rows), round))
@@ -99,9 +96,7 @@ pub(crate) fn rehearse_on<T: Running, P: Policy>(
 
 // The verdict on a table; none where its round is too long to rehearse. The table itself is left as it is.
 pub fn rehearse<P: Policy>(rows: &[Option<Row>; ROWS], window: u8, policy: &P) -> Option<Verdict>
-    ensures value { result ≡ rehearsed (rules_of (P.Policy.goes policy.now) window) 5040 (slots rows.now) }
-    ensures calm { Sound (slots rows.now) → result ≡ Some Settled → Calm (rules_of (P.Policy.goes policy.now) window) (slots rows.now) }
-    ensures late { (row cycle : ℕ) → result ≡ Some (Late row cycle) → FirstLate (rules_of (P.Policy.goes policy.now) window) (slots rows.now) row cycle }
+    ensures { Foretells (rules_of (P.Policy.goes policy.now) window) (slots rows.now) result }
 {
     let mut columns = Columns::of(rows);
     rehearse_on(&mut columns, rows, &Rules { window, policy })

@@ -11,6 +11,7 @@ use crate::columns::wait_of;
 use crate::row::Row;
 use bus::rows::{ROWS, RowSet};
 use orders::instance::Cycles;
+use std::array;
 
 // The longest round that a rehearsal takes on.
 pub const MOST_CYCLES_IN_ROUND: u16 = 5_040;
@@ -70,11 +71,7 @@ pub fn waiting(rows: &[Option<Row>; ROWS]) -> RowSet
     ensures value { result.word ≡ waiting_word 32 (slots rows.now) }
     ensures each { (k : ℕ) → k < 32 → member result.word k ≡ waits_at (slots rows.now) k }
 {
-    let mut word = 0;
-    for (r, slot) in rows.iter().enumerate() {
-        word |= u32::from(row_waits(*slot)) << r;
-    }
-    RowSet { word }
+    RowSet::from_rows(&array::from_fn(|r| row_waits(rows[r])))
 }
 
 // Whether every row that waits at the end also waited at the start.

@@ -20,7 +20,8 @@ fn rows_with(cycles: &[Cycles; ROWS], value: Cycles) -> u32
         .to_bitmask() as u32
 }
 
-// Both numbers are read before the choice, so that a core can do many rows at once.
+// Both numbers are read before the choice, so that a core can do many rows at once: with the reads in the branches a
+// rehearsal took half as much again.
 fn one_of(is_due: bool, due: Cycles, other: Cycles) -> Cycles
     ensures { result ≡ cond is_due due other }
 {
@@ -52,7 +53,7 @@ impl Columns {
         RowSet { word }
     }
 
-    // What a policy sees of a waiting row.
+    // What a policy sees of a waiting row. The `requires` and no type of its own for a row: this is its one reader.
     pub(crate) fn instance(&self, row: u8) -> Instance
         requires { row < 32 }
         ensures { result ≡ seen row (slice_index self.now.lefts row) (slice_index_or self.now.kinds row no_instance) }

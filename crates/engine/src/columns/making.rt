@@ -9,8 +9,8 @@ use bus::rows::ROWS;
 use orders::instance::{Cycles, Instance};
 use std::array;
 
-// What a policy sees of an empty row: its instances, which come seldom, have no cycle left and so never wait. No
-// `Option`: the columns are read without a test.
+// What a policy sees of an empty row: its instances, which come seldom, have no cycle left and so never wait. A
+// column of `Option`s would be no plainer, and no column of bytes.
 const EMPTY_ROW: Instance = Instance {
     row: 0,
     duration: 0,
@@ -38,6 +38,8 @@ fn left_of(slot: Option<Row>) -> Cycles
     slot.map_or(0, |row| row.left)
 }
 
+// A column each, by one call: one function over what is read would need a clause on its closure, and be no plainer.
+// `map` of the array, tried, took a cycle above its limit of instructions.
 fn kinds_of(rows: &[Option<Row>; ROWS]) -> [Instance; ROWS]
     ensures { (k : ℕ) → k < 32 → slice_index_or result k no_instance ≡ kind_of 0 (slots rows.now k) }
 {

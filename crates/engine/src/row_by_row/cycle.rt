@@ -1,17 +1,19 @@
 // One elementary cycle of the table, row by row.
-ghost use Rattle.std.specs.Prelude.{◌≡◌, ◌≤◌};
+ghost use Rattle.std.specs.Prelude.{◌≡◌, ◌<◌, ◌≤◌};
 ghost use Rattle.std.specs.Option.{option_to_list};
 ghost use Rattle.bus.specs.Rows.{member};
 ghost use Rattle.engine.specs.Cycle.{cycle, late_row, lowest, release, scheduled, waiter, waiters, word};
 ghost use Rattle.engine.specs.Load.{scheduled_units};
-ghost use Rattle.engine.specs.Held.{slots, rules_of, demand, closed_by, late_by, word_below};
+ghost use Rattle.engine.specs.Held.{slots, rules_of, rules_by, demand, closed_by, late_by, word_below};
 
 use crate::cycle::Outcome;
 use crate::line::duration;
 use crate::row::Row;
+use crate::rules::Rules;
 use bus::rows::{ROWS, RowSet};
 use orders::instance::Instance;
 use orders::policy::Policy;
+use std::array;
 
 // Runs one cycle on the rows.
 pub fn run_cycle<P: Policy>(rows: &mut [Option<Row>; ROWS], window: u8, policy: &P) -> Outcome
@@ -21,7 +23,7 @@ pub fn run_cycle<P: Policy>(rows: &mut [Option<Row>; ROWS], window: u8, policy: 
     ensures within { scheduled_units (rules_of (P.Policy.goes policy.now) window) (slots rows.old) ≤ window }
 {
     release(rows);
-    let schedule = schedule(rows, window, policy);
+    let schedule = schedule(rows, &Rules { window, policy });
     let late = close(rows, schedule);
     Outcome { schedule, late }
 }
@@ -34,17 +36,20 @@ fn release(rows: &mut [Option<Row>; ROWS])
 }
 
 // The rows whose instance waits and fits into the window behind all that go before it.
-fn schedule<P: Policy>(rows: &[Option<Row>; ROWS], window: u8, policy: &P) -> RowSet
-    ensures { result.word ≡ word_below 32 (scheduled (rules_of (P.Policy.goes policy.now) window) (slots rows.now)) }
+fn schedule<P: Policy>(rows: &[Option<Row>; ROWS], rules: &Rules<P>) -> RowSet
+    ensures { result.word ≡ word_below 32 (scheduled (rules_by P.Policy.goes rules.now) (slots rows.now)) }
 {
-    let mut word = 0;
-    for (r, slot) in rows.iter().enumerate() {
-        if let Some(waiting) = waiting_instance(*slot, r as u8) {
-            let fits = demand(rows, waiting, policy) <= u16::from(window);
-            word |= u32::from(fits) << r;
-        }
+    RowSet::from_rows(&array::from_fn(|r| is_scheduled(rows, rules, r as u8)))
+}
+
+fn is_scheduled<P: Policy>(rows: &[Option<Row>; ROWS], rules: &Rules<P>, row: u8) -> bool
+    requires { row < 32 }
+    ensures { result ≡ scheduled (rules_by P.Policy.goes rules.now) (slots rows.now) row }
+{
+    match waiting_instance(rows[usize::from(row)], row) {
+        Some(waiting) => demand(rows, waiting, rules.policy) <= u16::from(rules.window),
+        None => false,
     }
-    RowSet { word }
 }
 
 // What a row has waiting, if anything.

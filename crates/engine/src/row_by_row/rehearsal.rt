@@ -1,9 +1,7 @@
 // The rehearsal of a table on a copy, cycle by cycle and row by row.
 ghost use Rattle.std.specs.Prelude.{◌≡◌, ℕ, Some};
 ghost use Rattle.engine.specs.Held.{slots, rules_of};
-ghost use Rattle.engine.specs.Comparison.{Sound, Calm, FirstLate};
-ghost use Rattle.engine.specs.Rehearsal.{rehearsed};
-ghost use Rattle.engine.specs.declared.verdict.Verdict.TheVariants.{Settled, Late};
+ghost use Rattle.engine.specs.Verdicts.{Foretells};
 
 use crate::cycle::Outcome;
 use crate::rehearsal::rehearse_on;
@@ -30,9 +28,7 @@ impl Running for [Option<Row>; ROWS] {
 
 // The verdict on a table; none where its round is too long to rehearse. The table itself is left as it is.
 pub fn rehearse<P: Policy>(rows: &[Option<Row>; ROWS], window: u8, policy: &P) -> Option<Verdict>
-    ensures value { result ≡ rehearsed (rules_of (P.Policy.goes policy.now) window) 5040 (slots rows.now) }
-    ensures calm { Sound (slots rows.now) → result ≡ Some Settled → Calm (rules_of (P.Policy.goes policy.now) window) (slots rows.now) }
-    ensures late { (row cycle : ℕ) → result ≡ Some (Late row cycle) → FirstLate (rules_of (P.Policy.goes policy.now) window) (slots rows.now) row cycle }
+    ensures { Foretells (rules_of (P.Policy.goes policy.now) window) (slots rows.now) result }
 {
     let mut copy = *rows;
     rehearse_on(&mut copy, rows, &Rules { window, policy })

@@ -1,26 +1,15 @@
-use Rattle.std.proofs.Common.{◌≡◌, ◌*◌, ◌%◌, ◌^◌, sym, ap, ◌∙◌, ap₂, arith}
-use lib.Bits.{bit_or}
-use Rattle.bus.specs.Rows.{member}
-use Rattle.engine.specs.Held.{slots, word_below}
-use Rattle.engine.specs.Waiting.{waits_at, waiting_word}
-use Rattle.engine.proofs.Schedule.{word_below_none, word_below_or}
-use Rattle.engine.proofs.WaitingRows.{waiting_below, member_waiting}
+use Rattle.std.proofs.Common.{◌≡◌, ℕ, ◌<◌, false, get_or, ◌∙◌, arith, rules}
+use Rattle.engine.specs.Held.{slots}
+use Rattle.engine.specs.Waiting.{waits_at}
+use Rattle.engine.proofs.Made.{made_at}
+use Rattle.engine.proofs.WaitingRows.{row_of_list, word_of_list, waiting_below}
 use Rattle.engine.proofs.round.waiting.Goals as goal
 
-pub loop-r-init : goal.loop-r-init
-loop-r-init c = sym (word_below_none _)
+each : (c : goal.After-from_rows) → (k : ℕ) → k < 32 → get_or c.from_fn.result k false ≡ waits_at (slots c.args.rows.now) k
+each c k h = made_at _ (waits_at (slots c.args.rows.now)) _ _ (λ i r q call. search rules) 32 c.from_fn.ensures.items k false h
 
-pub loop-r-preserved : goal.loop-r-preserved
-loop-r-preserved c =
-    let r = c.loop-r.r in
-    ap₂ (λ v n. bit_or v ((n * 2 ^ r) % 2 ^ 32)) c.loop-r.invariant c.from.ensures ∙ word_below_or (waits_at (slots c.args.rows.now)) r _ (omega arith) c.row_waits.ensures
+pub returns-clause-value : goal.returns-clause-value
+returns-clause-value c = word_of_list c.from_rows.result.word c.from_fn.result _ (omega arith) c.from_rows.ensures.kept (each c) ∙ waiting_below (slots c.args.rows.now) 32
 
-whole : (c : goal.After-loop-r) → c.loop-r.word ≡ waiting_word 32 (slots c.args.rows.now)
-whole c = c.loop-r.invariant ∙ ap (λ n. word_below n (waits_at (slots c.args.rows.now))) (omega arith) ∙ waiting_below _ 32
-
-pub returns : goal.returns
-returns c =
-    record {
-      value = whole c;
-      each = λ k h. ap (λ w. member w k) (whole c) ∙ member_waiting 32 (slots c.args.rows.now) k h;
-    }
+pub returns-clause-each : goal.returns-clause-each
+returns-clause-each c = row_of_list c.from_rows.result.word c.from_fn.result _ c.from_rows.ensures.kept (each c)

@@ -1,11 +1,9 @@
 -- The waiting instances of the first rows. Assumes nothing.
-use Rattle.std.proofs.Common.{◌≡◌, ℕ, zero, suc, ◌+◌, ◌<◌, Bool, true, false, cond, ◌&&◌, [], ◌∷◌, ◌++◌, length, get_or, Some, None, Option, sym, refl, ap, ◌∙◌, subst, ap₂, inl, inr, append-nil, add-one, arith}
+use Rattle.std.proofs.Common.{◌≡◌, ℕ, zero, suc, ◌+◌, ◌<◌, [], ◌∷◌, ◌++◌, length, get_or, sym, refl, ap, ◌∙◌, subst, ap₂, inl, inr, append-nil, add-one, arith}
 use Rattle.std.proofs.lemmas.List.{length-append, get_or_append_left, get_or_push}
 use Rattle.std.proofs.lemmas.Bool.{cases_order}
 use Rattle.orders.specs.declared.instance.Instance.{Instance}
-use Rattle.engine.specs.declared.row.Row.{Row}
-use Rattle.engine.specs.Rows.{instance_of, waits}
-use Rattle.engine.specs.Cycle.{Slots, used_and, waiter, waiters}
+use Rattle.engine.specs.Cycle.{Slots, waiter, waiters}
 use Rattle.engine.specs.Held.{no_instance}
 
 pub waiters_none : (t : Slots) → waiters 0 t ≡ []
@@ -23,23 +21,6 @@ module _ (r : ℕ) (t : Slots) where
 
   pub waiters_push : (x : Instance) → x ∷ [] ≡ waiter r (t r) → waiters (r + 1) t ≡ waiters r t ++ x ∷ []
   waiters_push x adds = waiters_more r t ∙ ap (λ is. waiters r t ++ is) (sym adds)
-
--- a test of a slot's waiting instance is one of the slot
-pub waiter_passes : (test : Instance → Bool) (r : ℕ) (o : Option Row) (x : Instance) → x ∷ [] ≡ waiter r o → used_and (λ row. waits row && test (instance_of r row)) o ≡ test x
-waiter_passes test r None x e = cc
-waiter_passes test r (Some row) x e = go (waits row) e
-  where
-    go : (b : Bool) → x ∷ [] ≡ cond b (instance_of r row ∷ []) [] → (b && test (instance_of r row)) ≡ test x
-    go true e = ap (λ is. test (get_or is 0 x)) (sym e)
-    go false e = cc
-
-pub no_waiter_passes : (test : Instance → Bool) (r : ℕ) (o : Option Row) → [] ≡ waiter r o → used_and (λ row. waits row && test (instance_of r row)) o ≡ false
-no_waiter_passes test r None e = refl
-no_waiter_passes test r (Some row) e = go (waits row) e
-  where
-    go : (b : Bool) → [] ≡ cond b (instance_of r row ∷ []) [] → (b && test (instance_of r row)) ≡ false
-    go true e = cc
-    go false e = refl
 
 -- the instance of a waiting row stands after those of the rows below it
 pub waiter_place : (n r : ℕ) (t : Slots) (x : Instance) → r < n → x ∷ [] ≡ waiter r (t r) → length (waiters r t) < length (waiters n t)

@@ -14,7 +14,8 @@ pub struct Board<P> {
     pub watch: IdleWatch,
 }
 
-// The number of the answer, 0 for a change that is made.
+// The number of the answer, 0 for a change that is made. Apart from `Summed`: the scenarios that use this sum the
+// refusal's number alone, without its values, and their checksums stay.
 fn number_of(answer: Result<(), Refusal>) -> u32 {
     answer
         .err()
@@ -27,6 +28,7 @@ impl<P: Policy + Drop> Board<P> {
         Board { master, watch }
     }
 
+    // A match: the master has a call of its own for each change.
     pub fn make(&mut self, change: Change<P>) -> Result<(), Refusal> {
         match change {
             Change::Add { row, figures } => self.master.add(&self.watch, row, figures),

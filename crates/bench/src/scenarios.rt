@@ -61,7 +61,7 @@ impl Count {
         let _ = board.run_cycles(self.repeats, &mut self.sum, OwedTrigger::sent);
     }
 
-    // `next` with so many rows waiting.
+    // `next` with so many rows waiting. The size is meant to be cut to a byte, as in the plain implementation.
     fn cycles_of_full<P: Policy + Drop, F: Fn(u8) -> u8>(&mut self, policy: P, priority: F)
         requires { F.IsAlwaysCallable priority }
     {

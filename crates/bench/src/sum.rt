@@ -5,7 +5,7 @@ use bus::rows::RowSet;
 use engine::row::Figures;
 use session::answer::Answer;
 
-// Not a `Hasher`: that would take a number byte by byte, and this takes it whole.
+// Not a `Hasher`: that ends in 64 bits, and this checksum has 32, as the plain implementation's, which it has to equal.
 #[derive(Drop)]
 pub struct Sum {
     value: u32,

@@ -89,7 +89,8 @@ pub fn cart<P: Policy + Drop>(policy: P) -> Board<P> {
     board
 }
 
-// A 27th row for it. The priority varies from turn to turn, so that no two are the same question.
+// A 27th row for it. The priority varies from turn to turn, so that no two are the same question; the turn is meant to
+// be cut, which `try_from` would refuse.
 pub fn one_more(turn: u32) -> Figures {
     figures(23, 200, 200, 0, (turn & 255) as u8)
 }
@@ -109,7 +110,7 @@ pub fn crowd() -> Board<Selector> {
     board
 }
 
-// The last row of the crowd asks for one cycle more than a round has.
+// The last row of the crowd asks for one cycle more than a round has. The turn is meant to be cut, as above.
 pub fn last_in_crowd(turn: u32) -> Figures {
     figures(255, 35, 35, 255, (turn & 255) as u8)
 }

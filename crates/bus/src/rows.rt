@@ -22,8 +22,8 @@ impl RowSet {
         row < 32 && self.word >> row & 1 == 1
     }
 
-    // The set of the rows whose place is true. This and `to_rows` are methods, since `From` would be called by
-    // `<[bool; ROWS]>::from(set)`, and say both facts in one.
+    // The set of the rows whose place is true. This and `to_rows` are methods and no `From`: each has two clauses, which
+    // `From` would say in one, and `rows.into()` would not say that the places are a set's rows.
     pub fn from_rows(rows: &[bool; ROWS]) -> RowSet
         ensures value { result.word ≡ word_of rows.now }
         ensures kept { members 32 result.word ≡ rows.now }
@@ -62,7 +62,7 @@ impl IntoIterator for RowSet {
 // The rows of a set that are still to come, as the bits of a word.
 #[derive(Clone, Copy, PartialEq, Eq, Debug)]
 pub struct Members {
-    pub rest: u32,
+    rest: u32,
 }
 
 impl Iterator for Members {

@@ -8,7 +8,8 @@ use super::rows::RowSet;
 
 const TRIGGER_BYTES: usize = 4;
 
-// Whether a trigger from the offset on lies inside so many bytes. No offset wraps.
+// Whether a trigger from the offset on lies inside so many bytes. No offset wraps. That `write_trigger` lends `put` the
+// four bytes in mid-buffer is a fixed form of the project, so it asks first and takes no part by `get_mut`.
 fn fits(length: usize, offset: usize) -> bool
     ensures { result ≡ nat_le (offset + 4) length }
 {

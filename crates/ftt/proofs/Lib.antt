@@ -1,2 +1,3 @@
+mod Searches
 pub mod Soundness
 pub mod Steps

@@ -23,8 +23,7 @@ mod tests {
             duration,
             period,
             deadline: period,
-            phase: 0,
-            priority: 0,
+            ..Figures::default()
         }
     }
 

@@ -11,8 +11,7 @@ fn figures(duration: u8, period: u8, deadline: u8) -> Figures {
         duration,
         period,
         deadline,
-        phase: 0,
-        priority: 0,
+        ..Figures::default()
     }
 }
 
@@ -134,7 +133,7 @@ fn staggered(phase: u8) -> Figures {
         period: 16,
         deadline: 16,
         phase,
-        priority: 0,
+        ..Figures::default()
     }
 }
 

@@ -70,8 +70,7 @@ mod tests {
             duration: group.duration,
             period: group.period,
             deadline: group.deadline,
-            phase: 0,
-            priority: 0,
+            ..Figures::default()
         }
     }
 
@@ -84,12 +83,11 @@ mod tests {
         let messages = groups
             .iter()
             .flat_map(|group| repeat_n(message(*group), group.messages));
-        let mut free = 0;
-        for (row, figures) in (0..=u8::MAX).zip(messages) {
+        let mut rows = 0..u8::MAX;
+        for (figures, row) in messages.zip(&mut rows) {
             master.add(watch, row, figures)?;
-            free = row.saturating_add(1);
         }
-        Ok(free)
+        Ok(rows.start)
     }
 
     // The answer to one more of the slowest messages in a window of so many units.
@@ -157,6 +155,7 @@ mod tests {
         let (mut master, idle) = Master::new(RateMonotonic);
         let filled = fill(&mut master, &idle, &[EVERY_ROW]);
         let mut watch = idle;
+        // A flag: each turn takes the watch and hands on another, which `all` has no place for.
         let mut all_go = true;
         for _ in 0..100 {
             let owed = master.next(watch);

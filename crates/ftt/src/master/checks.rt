@@ -1,7 +1,7 @@
 // The checks that a change has to pass.
-ghost use Rattle.std.specs.Prelude.{◌≡◌, ℕ, ◌<◌, not, [], ◌∷◌, Some, nat_lt, IfOk};
+ghost use Rattle.std.specs.Prelude.{◌≡◌, ℕ, ◌<◌, not, [], ◌∷◌, Some, nat_lt, IfOk, IfSome};
 ghost use Rattle.bus.specs.Refusals.{field_number, numbered, told};
-ghost use Rattle.engine.specs.Cycle.{used_and};
+ghost use Rattle.engine.specs.Cycle.{lowest, used_and};
 ghost use Rattle.engine.specs.Held.{slots};
 ghost use Rattle.rules.specs.Calls.{is_used, refused_if, row_exists, in_range, width_in_range, within_window, all_within_window, new_row, put, rehearsed};
 ghost use Rattle.ftt.specs.Judged.{state_of, told_outcome};
@@ -24,7 +24,8 @@ pub(crate) fn slot(rows: &[Option<Row>; ROWS], row: u8) -> Result<Option<Row>, R
         .ok_or(Refusal::RowAbove31)
 }
 
-// A copy of the table with one row changed.
+// A copy of the table with one row changed. `row < 32` is asked here and in `with_message`, and a type for such an index
+// would be no plainer: `slot` has just told it, of the call's own number.
 pub(crate) fn with_row(
     rows: &[Option<Row>; ROWS],
     row: u8,
@@ -38,7 +39,8 @@ pub(crate) fn with_row(
     changed
 }
 
-// A new message waits for its phase, and no instance of it waits.
+// A new message waits for its phase, and no instance of it waits. A function and no `From`: not every row of such figures
+// is new, and the name says that this one is.
 pub(crate) fn new_row(figures: Figures) -> Row
     ensures { result ≡ new_row figures }
 {
@@ -103,20 +105,25 @@ fn is_above(slot: Option<Row>, window: u8) -> bool
     slot.is_some_and(|row| window < row.figures.duration)
 }
 
-// The lowest row whose duration is above the window is told.
-#[tactic(auto, using(engine::proofs::Tests::lowest_skip))]
+// The lowest row whose duration is above the window.
+fn first_above(rows: &[Option<Row>; ROWS], window: u8) -> Option<usize>
+    ensures first { result ≡ lowest 32 (λ r. used_and (λ row. nat_lt window row.figures.duration) (slots rows.now r)) }
+    ensures in_table { IfSome result (λ r. r < 32) }
+{
+    rows.iter().position(|slot| is_above(*slot, window))
+}
+
+// That row is told.
 pub(crate) fn check_durations(rows: &[Option<Row>; ROWS], window: u8) -> Result<(), Refusal>
     ensures { refusal_of result ≡ all_within_window 32 window (slots rows.now) }
 {
-    for (row, slot) in rows.iter().enumerate() {
-        if is_above(*slot, window) {
-            return Err(Refusal::AboveWindow { row: row as u8 });
-        }
+    match first_above(rows, window) {
+        None => Ok(()),
+        Some(row) => Err(Refusal::AboveWindow { row: row as u8 }),
     }
-    Ok(())
 }
 
-// The rehearsal of a changed table.
+// The rehearsal of a changed table. The three go apart: each caller puts another one in the place of the master's own.
 #[tactic(auto, using(crate::proofs::Steps::rehearsed_by))]
 pub(crate) fn check_rehearsal<P: Policy>(
     rows: &[Option<Row>; ROWS],

@@ -18,7 +18,8 @@ use engine::row::{Figures, Row};
 use orders::policy::Policy;
 
 impl<P: Policy> Master<P> {
-    // The rows with a new message on one of them, whatever it held.
+    // The rows with a new message on one of them, whatever it held. `row` and `figures` go apart here and below: they are
+    // the call's own parameters, and the calls are public.
     fn with_message(&self, row: u8, figures: Figures) -> Result<[Option<Row>; ROWS], Refusal>
         requires { row < 32 }
         ensures { (lost : ℕ) → told_outcome (λ rows. with_rows rows (standing self.now lost)) result ≡ message_comes_to P.Policy.goes (standing self.now lost) row figures }

@@ -80,12 +80,9 @@ impl<P> Master<P> {
 fn same_messages(a: &[Option<Row>; ROWS], b: &[Option<Row>; ROWS]) -> bool
     ensures { Decides result ((k : ℕ) → k < 32 → figures_of (slots a.now k) ≡ figures_of (slots b.now k)) }
 {
-    for (one, other) in a.iter().zip(b) {
-        if figures_of(*one) != figures_of(*other) {
-            return false;
-        }
-    }
-    true
+    a.iter()
+        .zip(b)
+        .all(|(one, other)| figures_of(*one) == figures_of(*other))
 }
 
 fn figures_of(slot: Option<Row>) -> Option<Figures>

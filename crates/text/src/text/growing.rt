@@ -1,16 +1,16 @@
-// How a text is begun, grown and read. What does not fit is let go, so that no text takes more memory.
+// How a text is begun, grown, read and cleared. What does not fit is let go, so that no text takes more memory.
 ghost use Rattle.std.specs.Prelude.{◌≡◌, ◌≤◌, [], ◌∷◌, decimal, length};
 ghost use Rattle.text.specs.Texts.{grown};
 
 use crate::text::Text;
+use arrayvec::ArrayVec;
 
 impl<const ROOM: usize> Text<ROOM> {
     pub fn new() -> Self
         ensures { result ≡ [] }
     {
         Text {
-            bytes: [0; ROOM],
-            len: 0,
+            bytes: ArrayVec::new(),
         }
     }
 
@@ -18,22 +18,19 @@ impl<const ROOM: usize> Text<ROOM> {
         ensures value { result.now ≡ self.now }
         ensures within { length result.now ≤ ROOM }
     {
-        &self.bytes[..self.len]
+        self.bytes.as_slice()
     }
 
     pub fn clear(&mut self)
         ensures { self.new ≡ [] }
     {
-        self.len = 0;
+        self.bytes.clear();
     }
 
     pub fn push(&mut self, byte: u8)
         ensures { self.new ≡ grown ROOM self.old (byte ∷ []) }
     {
-        if self.len < ROOM {
-            self.bytes[self.len] = byte;
-            self.len += 1;
-        }
+        let _ = self.bytes.try_push(byte);
     }
 
     // Bytes as they are.
@@ -41,7 +38,7 @@ impl<const ROOM: usize> Text<ROOM> {
         ensures { self.new ≡ grown ROOM self.old part.now }
     {
         // The proof learns from a field that the text is no longer than its room.
-        let _ = &self.len;
+        let _ = &self.bytes;
         for byte in part {
             self.push(*byte);
         }

@@ -107,16 +107,12 @@ fn refuse(fault: Fault) -> Line
 {
     let line = u64::from(fault.line);
     match fault.refusal {
-        Refusal::BadSign { place } => worded(
-            &[(b"(fault 13 (line ", line), (b") (place ", place as u64)],
-            b"))",
-        ),
-        Refusal::BadItem { place } => worded(
-            &[(b"(fault 14 (line ", line), (b") (place ", place as u64)],
-            b"))",
-        ),
-        Refusal::BadNumber { place } => worded(
-            &[(b"(fault 15 (line ", line), (b") (place ", place as u64)],
+        Refusal::BadSign { place } | Refusal::BadItem { place } | Refusal::BadNumber { place } => worded(
+            &[
+                (b"(fault ", u64::from(fault.refusal.number())),
+                (b" (line ", line),
+                (b") (place ", place as u64),
+            ],
             b"))",
         ),
         Refusal::OutOfRange { field } => {

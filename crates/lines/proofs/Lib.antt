@@ -1,4 +1,3 @@
-pub mod Scan
 pub mod Cuts
 pub mod Sizes
 pub mod Fits

@@ -1,5 +1,5 @@
 -- A line is well shaped just where no sign is misplaced. Assumes nothing.
-use Rattle.std.proofs.Common.{◌≡◌, ℕ, suc, ◌+◌, ◌<◌, ◌≤◌, true, false, cond, List, [], ◌∷◌, ◌++◌, length, get_or, take, Some, None, sym, refl, ap, ◌∙◌, subst, inl, inr, append_assoc, arith}
+use Rattle.std.proofs.Common.{◌≡◌, ℕ, suc, ◌+◌, ◌<◌, ◌≤◌, true, false, cond, List, [], ◌∷◌, ◌++◌, length, get_or, take, Some, None, Option, sym, refl, ap, ◌∙◌, subst, inl, inr, append_assoc, arith}
 use Rattle.std.specs.List.{AllByRecursion}
 use Rattle.std.proofs.lemmas.List.{take_more}
 use Rattle.std.proofs.lemmas.Bool.Decides.{nat_tests}
@@ -10,7 +10,10 @@ use Rattle.lines.specs.declared.shape.Stage.TheVariants.{Opening, WordDue, InWor
 use Rattle.lines.specs.Signs.{sign_of}
 use Rattle.lines.specs.Shapes.{step, closed, misplaced}
 use Rattle.lines.specs.Grammar.{Only, IsWord, IsItem, closing, WellShaped, FirstBad}
-use Rattle.lines.proofs.Scan.{onward}
+
+-- where a line is at fault whose sign at this place leads to such a stage
+abbrev onward : ℕ → List ℕ → Option Stage → Option ℕ
+onward at bs o = elim o [ None ↦ Some at | Some next ↦ misplaced next (at + 1) bs ]
 
 -- no fault from this stage on, wherever it begins
 abbrev Good : Stage → List ℕ → Type 0

@@ -1,7 +1,5 @@
 -- The shape of a line: a bracket, a word, items that each follow one space, a bracket, and nothing more. Assumes nothing.
-use Rattle.std.specs.Prelude.{◌≡◌, ℕ, ◌+◌, ◌<◌, Bool, true, false, cond, List, [], ◌∷◌, length, Some, None, Option, Result, MatchResult, slice_index}
-use Rattle.bus.specs.declared.refusal.Refusal.{Refusal}
-use Rattle.bus.specs.declared.refusal.Refusal.TheVariants.{BadSign}
+use Rattle.std.specs.Prelude.{ℕ, ◌+◌, Bool, true, false, cond, List, [], ◌∷◌, Some, None, Option}
 use Rattle.lines.specs.declared.sign.Sign.{Sign}
 use Rattle.lines.specs.declared.sign.Sign.TheVariants.{Letter, Digit, Space, Open, Close, Other}
 use Rattle.lines.specs.declared.shape.Stage.{Stage}
@@ -39,10 +37,3 @@ abbrev pub misplaced : Stage → ℕ → List ℕ → Option ℕ
 misplaced stage place [] = cond (closed stage) None (Some place)
 misplaced stage place (b ∷ bs) =
     elim (step stage (sign_of b)) [ None ↦ Some place | Some next ↦ misplaced next (place + 1) bs ]
-
--- the sign at `at` is taken if it can follow
-abbrev pub Taken : List ℕ → ℕ → Stage → ℕ → Result Stage Refusal → Type 0
-Taken line at stage after r =
-    MatchResult r
-    (λ next. (at < length line) × (after ≡ at + 1) × (step stage (sign_of (slice_index line at)) ≡ Some next))
-    (λ e. (e ≡ BadSign at) × (at < length line → step stage (sign_of (slice_index line at)) ≡ None))

@@ -1,4 +1,5 @@
-// Values that a line names by a word. `FromStr` takes a `&str`, and a line is bytes.
+// Values that a line names by a word. A trait of this crate, since `TryFrom` and `FromStr` are foreign, and a crate may
+// not implement a foreign trait for a foreign type such as `Selector`.
 ghost use Rattle.std.specs.Prelude.{◌≡◌, ℕ, List};
 ghost use Rattle.std.specs.Str.{bytes_eq};
 ghost use Rattle.lines.specs.Names.{named};

@@ -2,7 +2,8 @@
 ghost use Rattle.std.specs.Prelude.{◌≡◌};
 ghost use Rattle.lines.specs.Numbers.{number_read, needless};
 
-// The number that these digits write, unless it has a needless leading zero or is above `most`.
+// The number that these digits write, unless it has a needless leading zero or is above `most`. By hand: `str::parse`
+// takes a `&str` and no bytes, and would let a plus sign and needless zeros pass.
 pub fn read_number(digits: &[u8], most: u16) -> Option<u16>
     ensures { result ≡ number_read most digits.now }
 {

@@ -14,7 +14,7 @@ pub struct Part<'a> {
     pub text: &'a [u8],
 }
 
-// What is left of a line.
+// What is left of a line. The whole line and a place in it, not a shorter slice: places count from the line's start.
 #[derive(Clone, Copy)]
 pub struct Rest<'a> {
     line: &'a [u8],

@@ -2,7 +2,7 @@
 ghost use Rattle.std.specs.Prelude.{◌≡◌, Ok};
 ghost use Rattle.bus.specs.Refusals.{answered};
 ghost use Rattle.lines.specs.declared.shape.Stage.TheVariants.{Opening};
-ghost use Rattle.lines.specs.Shapes.{step, closed, misplaced, Taken};
+ghost use Rattle.lines.specs.Shapes.{step, closed, misplaced};
 ghost use Rattle.lines.specs.Reading.{unless, bad_sign};
 
 use crate::sign::{Sign, classify};
@@ -48,41 +48,19 @@ impl Stage {
     }
 }
 
-// The place is counted by hand: a line that ends too early is at fault at its end, where an iterator gives no item.
-#[derive(Drop)]
-struct Reader<'a> {
-    line: &'a [u8],
-    at: usize,
-}
-
-impl Reader<'_> {
-    // Takes one sign, and tells the stage that it leads to.
-    fn take(&mut self, stage: Stage) -> Result<Stage, Refusal>
-        ensures takes { Taken self.old.line.now self.old.at stage self.new.at result }
-        ensures same { self.new.line ≡ self.old.line }
-    {
-        let Some(byte) = self.line.get(self.at) else {
-            return Err(Refusal::BadSign { place: self.at });
-        };
-        let Some(next) = stage.after(classify(*byte as char)) else {
-            return Err(Refusal::BadSign { place: self.at });
-        };
-        self.at += 1;
-        Ok(next)
-    }
-}
-
 // Declines the line at the first sign that cannot continue a form, or at its end if the form is not complete.
 pub fn check_shape(line: &[u8]) -> Result<(), Refusal>
     ensures { answered result ≡ unless bad_sign (misplaced Opening 0 line.now) (Ok tt) }
 {
-    let mut reader = Reader { line, at: 0 };
     let mut stage = Stage::Opening;
-    while !stage.is_closed() {
-        stage = reader.take(stage)?;
+    for (place, byte) in line.iter().enumerate() {
+        let Some(next) = stage.after(classify(*byte as char)) else {
+            return Err(Refusal::BadSign { place });
+        };
+        stage = next;
     }
-    if reader.at < line.len() {
-        return Err(Refusal::BadSign { place: reader.at });
+    if !stage.is_closed() {
+        return Err(Refusal::BadSign { place: line.len() });
     }
     Ok(())
 }

@@ -13,6 +13,8 @@ use engine::row::Figures;
 use ftt::master::Master;
 use text::text::Line;
 
+// Row and figures stay two arguments below: the caller gives the one and the master the other, and a struct for these
+// three steps would be no plainer.
 // The numbers of the add form, in their order.
 fn add_numbers(row: u8, figures: Figures) -> [u8; 6]
     ensures { result ≡ add_numbers row figures }

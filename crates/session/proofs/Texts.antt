@@ -1,19 +1,22 @@
 -- The texts of answers. Assumes nothing.
-use Rattle.std.proofs.Common.{◌≡◌, ℕ, ◌+◌, ◌*◌, ◌/◌, ◌%◌, ◌<◌, ◌≤◌, true, refl, List, [], ◌∷◌, ◌++◌, length, get_or, drop, codes, decimal, sym, ap, ◌∙◌, Bor, arith, length-append}
+use Rattle.std.proofs.Common.{◌≡◌, ℕ, ◌+◌, ◌*◌, ◌/◌, ◌%◌, ◌<◌, ◌≤◌, true, refl, List, [], ◌∷◌, ◌++◌, length, get_or, drop, codes, decimal, sym, ap, ◌∙◌, Bor, arith, length-append, ◌⊎◌, inl, inr}
 use Rattle.std.specs.Char.{is_ascii}
 use Rattle.std.specs.List.{list_all}
 use Rattle.std.specs.Str.{IsAscii}
 use Rattle.std.proofs.lemmas.Str.{IsAscii-append}
 use Rattle.std.proofs.lemmas.Str.Ascii.{IsAscii-cons, IsAscii-nil}
-use Rattle.std.proofs.lemmas.Fmt.{IsAscii-decimal, length-decimal-le}
+use Rattle.std.proofs.lemmas.Fmt.{IsAscii-decimal, length-decimal-le, decimal_digit, decimal_step}
 use Rattle.std.proofs.lemmas.Bool.{and_parts}
 use Rattle.std.proofs.lemmas.Bool.Decides.{nat_tests}
 use Rattle.std.proofs.lemmas.List.Folds.{list_all-append}
 use Rattle.bus.specs.Triggers.{trigger_bytes}
+use Rattle.bus.specs.Refusals.{told}
+use Rattle.bus.specs.declared.refusal.Refusal.{Refusal}
+use Rattle.bus.specs.declared.refusal.Refusal.TheVariants.{BadSign, BadItem, BadNumber}
 use Rattle.std.proofs.lemmas.List.{at_drop_more}
 use Rattle.text.specs.Texts.{grown}
 use Rattle.text.proofs.Grown.{pushed}
-use Rattle.session.specs.Printed.{hex_digit, hex_byte, sent, worded, words, AreFit, IsShort}
+use Rattle.session.specs.Printed.{hex_digit, hex_byte, refused, sent, worded, words, AreFit, IsShort}
 
 -- a number behind its words is the front of what is left
 pub worded_more : (d : Bor (List ℕ) × ℕ) (ps : List (Bor (List ℕ) × ℕ)) (end : List ℕ) (i : ℕ) (text between after : List ℕ)
@@ -39,8 +42,8 @@ worded_length (p ∷ ps) end fit =
     )
 
 pub worded_short : (ps : List (Bor (List ℕ) × ℕ)) (end : List ℕ) → IsShort ps end → length (worded ps end) < 128
-worded_short ps end (fit, two, few, _) =
-    omega (arith, worded_length ps end fit, two, few)
+worded_short ps end (fit, three, few, _) =
+    omega (arith, worded_length ps end fit, three, few)
 
 plain_ascii : (bs : List ℕ) → list_all is_ascii bs ≡ true → IsAscii bs
 plain_ascii [] h = IsAscii-nil
@@ -57,6 +60,35 @@ all_ascii (p ∷ ps) end fit plain =
 
 pub worded_ascii : (ps : List (Bor (List ℕ) × ℕ)) (end : List ℕ) → IsShort ps end → IsAscii (worded ps end)
 worded_ascii ps end (fit, _, _, plain) = all_ascii ps end fit plain
+
+-- the numbers of the faults of a text
+teen : (n d : ℕ) → d < 6 → n ≡ 10 + d → decimal n ≡ 49 ∷ (48 + d) ∷ []
+teen n d small is =
+    let one : n / 10 ≡ 1 = omega (arith, is) in
+    let last : n % 10 ≡ d = omega (arith, is) in
+    decimal_step n (omega (arith, is)) (omega (arith, is))
+    ∙ (λ i. decimal (one i) ++ (48 + last i) ∷ [])
+    ∙ ap (λ bs. bs ++ (48 + d) ∷ []) (decimal_digit 1 (omega arith))
+
+abbrev behind : ℕ → ℕ → List ℕ
+behind line place = codes " (line " ++ (decimal line ++ (codes ") (place " ++ (decimal place ++ codes "))")))
+
+-- a fault of a text by its number, line and place
+abbrev pub located : ℕ → ℕ → ℕ → List ℕ
+located number line place = codes "(fault " ++ (decimal number ++ behind line place)
+
+-- whichever of the three it is, it is told so
+pub located_is : (line place : ℕ) (refusal : Refusal)
+    → (refusal ≡ BadSign place) ⊎ ((refusal ≡ BadItem place) ⊎ (refusal ≡ BadNumber place))
+    → located (told refusal).number line place ≡ refused line refusal
+located_is line place refusal which =
+    let begun : List ℕ → List ℕ = λ digits. codes "(fault " ++ (digits ++ behind line place) in
+    let number : Refusal → List ℕ = λ r. located (told r).number line place in
+    elim which [
+      | inl is ↦ ap number is ∙ ap begun (teen 13 3 (omega arith) refl) ∙ sym (ap (refused line) is)
+      | inr (inl is) ↦ ap number is ∙ ap begun (teen 14 4 (omega arith) refl) ∙ sym (ap (refused line) is)
+      | inr (inr is) ↦ ap number is ∙ ap begun (teen 15 5 (omega arith) refl) ∙ sym (ap (refused line) is)
+    ]
 
 -- the digits of bytes, each behind a space, and the closing bracket
 abbrev pub digits : List ℕ → List ℕ

@@ -99,9 +99,9 @@ abbrev pub AreFit : List (Bor (List ℕ) × ℕ) → Type 0
 AreFit [] = Unit {0}
 AreFit (p ∷ ps) = (p.1 < 2 ^ 64) × AreFit ps
 
--- one or two of them, or none, and few words of plain letters
+-- up to three of them and few words of plain letters
 abbrev pub IsShort : List (Bor (List ℕ) × ℕ) → List ℕ → Type 0
-IsShort ps end = AreFit ps × (length ps ≤ 2) × (length (words ps end) ≤ 64) × IsTrue (list_all is_ascii (words ps end))
+IsShort ps end = AreFit ps × (length ps ≤ 3) × (length (words ps end) ≤ 64) × IsTrue (list_all is_ascii (words ps end))
 
 -- the text is this, and is short and has plain letters alone
 pub record Says (text this : List ℕ) : Type 0 where

@@ -1,5 +1,5 @@
 -- The texts of answers. Assumes nothing.
-use Rattle.std.proofs.Common.{◌≡◌, ℕ, ◌+◌, ◌*◌, ◌/◌, ◌%◌, ◌<◌, ◌≤◌, true, refl, List, [], ◌∷◌, ◌++◌, length, get_or, drop, codes, decimal, sym, ap, ◌∙◌, Bor, arith, length-append, ◌⊎◌, inl, inr}
+use Rattle.std.proofs.Common.{◌≡◌, ℕ, ◌+◌, ◌*◌, ◌/◌, ◌%◌, ◌<◌, ◌≤◌, true, refl, List, [], ◌∷◌, ◌++◌, length, get_or, drop, codes, decimal, sym, ap, ◌∙◌, subst, Bor, arith, length-append, ◌⊎◌, inl, inr}
 use Rattle.std.specs.Char.{is_ascii}
 use Rattle.std.specs.List.{list_all}
 use Rattle.std.specs.Str.{IsAscii}
@@ -16,7 +16,15 @@ use Rattle.bus.specs.declared.refusal.Refusal.TheVariants.{BadSign, BadItem, Bad
 use Rattle.std.proofs.lemmas.List.{at_drop_more}
 use Rattle.text.specs.Texts.{grown}
 use Rattle.text.proofs.Grown.{pushed}
-use Rattle.session.specs.Printed.{hex_digit, hex_byte, refused, sent, worded, words, AreFit, IsShort}
+use Rattle.lines.specs.declared.fault.Fault.{Fault}
+use Rattle.session.specs.declared.answer.Answer.{Answer}
+use Rattle.session.specs.declared.answer.Answer.TheVariants.{Refused}
+use Rattle.session.specs.Printed.{hex_digit, hex_byte, printed, refused, sent, worded, words, AreFit, IsShort}
+
+-- what holds of the text of the case holds of what is printed for the answer
+pub in_case : (Holds : List ℕ → Type 0) (a : Answer) (fault : Fault) (refusal : Refusal)
+    → a ≡ Refused fault → fault.refusal ≡ refusal → Holds (refused fault.line refusal) → Holds (printed a)
+in_case Holds a fault refusal whole is = subst Holds (sym (ap printed whole ∙ ap (refused fault.line) is))
 
 -- a number behind its words is the front of what is left
 pub worded_more : (d : Bor (List ℕ) × ℕ) (ps : List (Bor (List ℕ) × ℕ)) (end : List ℕ) (i : ℕ) (text between after : List ℕ)

@@ -1,4 +1,5 @@
 pub mod Calm
+pub mod Filling
 pub mod Firsts
 pub mod Fits
 pub mod Gathering

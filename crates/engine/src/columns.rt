@@ -9,8 +9,6 @@ mod counting;
 mod making;
 mod serving;
 
-pub(crate) use making::wait_of;
-
 #[derive(Drop)]
 pub struct Columns {
     // what a policy sees of each row

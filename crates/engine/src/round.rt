@@ -3,11 +3,10 @@ ghost use Rattle.std.specs.Prelude.{◌≡◌, ℕ, ◌%◌, ◌<◌, not, ◌&&
 ghost use Rattle.bus.specs.Rows.{member};
 ghost use Rattle.engine.specs.Rows.{waits};
 ghost use Rattle.engine.specs.Cycle.{Slots, used_and};
-ghost use Rattle.engine.specs.Rehearsal.{every, first_from, divided_by, round, lead_in, settled};
+ghost use Rattle.engine.specs.Rehearsal.{every, first_from, divided_by, round, wait_of, lead_in, settled};
 ghost use Rattle.engine.specs.Held.{slots};
 ghost use Rattle.engine.specs.Waiting.{waits_at, waiting_word};
 
-use crate::columns::wait_of;
 use crate::row::Row;
 use bus::rows::{ROWS, RowSet};
 use orders::instance::Cycles;
@@ -56,6 +55,12 @@ fn row_waits(slot: Option<Row>) -> bool
     ensures { result ≡ used_and waits slot }
 {
     slot.is_some_and(Row::waits)
+}
+
+fn wait_of(slot: Option<Row>) -> Cycles
+    ensures { result ≡ wait_of slot }
+{
+    slot.map_or(0, |row| row.wait)
 }
 
 // The lead-in: the greatest wait, after which every wait is below its period.

@@ -65,10 +65,13 @@ impl Columns {
         }
     }
 
-    // Every row whose wait is over releases an instance.
+    // Every row whose wait is over releases an instance. Most cycles of a long round have no such row.
     pub(crate) fn release(&mut self)
         ensures { (t : Slots) → shows self.old t → shows self.new (release t) }
     {
+        if rows_with(&self.waits, 0) == 0 {
+            return;
+        }
         self.lefts = when_due(&self.waits, &self.deadlines, &self.lefts);
         self.waits = when_due(&self.waits, &self.periods, &self.waits);
     }

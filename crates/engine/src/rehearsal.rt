@@ -3,7 +3,7 @@ ghost use Rattle.std.specs.Prelude.{◌≡◌, ℕ, ◌+◌, ◌^◌, ◌<◌, S
 ghost use Rattle.std.specs.Option.{unwrap_or};
 ghost use Rattle.engine.specs.Cycle.{Slots};
 ghost use Rattle.engine.specs.Held.{slots, rules_of, rules_by};
-ghost use Rattle.engine.specs.Rehearsal.{lead_in, stretch, rounds, verdict};
+ghost use Rattle.engine.specs.Rehearsal.{lead_in, round, stretch, rounds, verdict};
 ghost use Rattle.engine.specs.Verdicts.{Foretells};
 ghost use Rattle.engine.specs.declared.verdict.Verdict.{Verdict as Decided};
 
@@ -81,23 +81,25 @@ fn judge<T: Running, P: Policy>(
     }
 }
 
-// The verdict on these rows, by a table that holds them; none where their round is too long to rehearse.
+// The verdict on these rows, whose round has so many cycles, by a table that holds them.
 pub(crate) fn rehearse_on<T: Running, P: Policy>(
     table: &mut T,
     rows: &[Option<Row>; ROWS],
     rules: &Rules<P>,
-) -> Option<Verdict>
-    requires { T.shows table.old (slots rows.now) }
-    ensures { Foretells (rules_by P.Policy.goes rules.now) (slots rows.now) result }
+    cycles: u16,
+) -> Verdict
+    requires held { T.shows table.old (slots rows.now) }
+    requires rounds { Some cycles ≡ round 5040 32 (slots rows.now) }
+    ensures { Foretells (rules_by P.Policy.goes rules.now) (slots rows.now) (Some result) }
 {
-    let round = round_of(rows)?;
-    Some(judge(table, rules, lead_in(rows), round))
+    judge(table, rules, lead_in(rows), cycles)
 }
 
 // The verdict on a table; none where its round is too long to rehearse. The table itself is left as it is.
 pub fn rehearse<P: Policy>(rows: &[Option<Row>; ROWS], window: u8, policy: &P) -> Option<Verdict>
     ensures { Foretells (rules_of (P.Policy.goes policy.now) window) (slots rows.now) result }
 {
+    let round = round_of(rows)?;
     let mut columns = Columns::of(rows);
-    rehearse_on(&mut columns, rows, &Rules { window, policy })
+    Some(rehearse_on(&mut columns, rows, &Rules { window, policy }, round))
 }

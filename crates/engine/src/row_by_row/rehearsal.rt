@@ -5,7 +5,7 @@ ghost use Rattle.engine.specs.Verdicts.{Foretells};
 
 use crate::cycle::Outcome;
 use crate::rehearsal::rehearse_on;
-use crate::round::waiting;
+use crate::round::{round_of, waiting};
 use crate::row::Row;
 use crate::row_by_row::cycle::run_cycle;
 use crate::rules::Rules;
@@ -30,6 +30,7 @@ impl Running for [Option<Row>; ROWS] {
 pub fn rehearse<P: Policy>(rows: &[Option<Row>; ROWS], window: u8, policy: &P) -> Option<Verdict>
     ensures { Foretells (rules_of (P.Policy.goes policy.now) window) (slots rows.now) result }
 {
+    let round = round_of(rows)?;
     let mut copy = *rows;
-    rehearse_on(&mut copy, rows, &Rules { window, policy })
+    Some(rehearse_on(&mut copy, rows, &Rules { window, policy }, round))
 }

@@ -14,11 +14,11 @@ pub returns : goal.returns
 returns g c =
     let rules = rules_by g.P.Policy.goes c.args.rules.now in
     let t = slots c.args.rows.now in
-    let round = c.in_ok-round.round in
-    let judged : c.judge.result ≡ verdict rules round t = c.judge.ensures t c.requires c.lead_in.ensures in
+    let round = c.args.cycles in
+    let judged : c.judge.result ≡ verdict rules round t = c.judge.ensures t c.requires.held c.lead_in.ensures in
     record {
-      value = ap Some judged ∙ ap (option_map (λ m. verdict rules m t)) c.in_ok-round.ensures;
+      value = ap Some judged ∙ ap (option_map (λ m. verdict rules m t)) c.requires.rounds;
       calm = λ sound is.
-          calm_when_rehearsed rules.goes 32 rules.window 5040 round t (λ r past. get_or_past c.args.rows.now r None (omega arith)) sound (sym c.in_ok-round.ensures) (sym judged ∙ same_verdict is);
+          calm_when_rehearsed rules.goes 32 rules.window 5040 round t (λ r past. get_or_past c.args.rows.now r None (omega arith)) sound (sym c.requires.rounds) (sym judged ∙ same_verdict is);
       late = λ row cycle is. first_late_when_late rules round row cycle t (sym judged ∙ same_verdict is);
     }

@@ -26,9 +26,13 @@ pub trait Name: Copy + 'static {
     final fn named(text: &[u8]) -> Option<Self>
         ensures { result ≡ named written text.now every }
     {
-        Self::all()
-            .iter()
-            .find(|name| name.is_written(text))
-            .copied()
+        find(Self::all(), text)
     }
+}
+
+// The first of these that is written so.
+pub fn find<N: Name>(all: &[N], text: &[u8]) -> Option<N>
+    ensures { result ≡ named N.Name.written text.now all.now }
+{
+    all.iter().find(|name| name.is_written(text)).copied()
 }

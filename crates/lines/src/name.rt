@@ -4,7 +4,7 @@ ghost use Rattle.std.specs.Prelude.{◌≡◌, ℕ, List};
 ghost use Rattle.std.specs.Str.{bytes_eq};
 ghost use Rattle.lines.specs.Names.{named};
 
-pub trait Name: Copy + 'static {
+pub trait Name: Copy {
     ghost written: { Self → List ℕ };
 
     // All values, in the order in which they are looked for.
@@ -13,7 +13,9 @@ pub trait Name: Copy + 'static {
     fn text(self) -> &'static [u8]
         ensures { result.now ≡ written self };
 
-    fn all() -> &'static [Self]
+    fn all<'a>() -> &'a [Self]
+    where
+        Self: 'a,
         ensures { result.now ≡ every };
 
     final fn is_written(self, text: &[u8]) -> bool
@@ -26,9 +28,13 @@ pub trait Name: Copy + 'static {
     final fn named(text: &[u8]) -> Option<Self>
         ensures { result ≡ named written text.now every }
     {
-        Self::all()
-            .iter()
-            .find(|name| name.is_written(text))
-            .copied()
+        find(Self::all(), text)
     }
+}
+
+// The first of these that is written so.
+pub fn find<N: Name>(all: &[N], text: &[u8]) -> Option<N>
+    ensures { result ≡ named N.Name.written text.now all.now }
+{
+    all.iter().find(|name| name.is_written(text)).copied()
 }

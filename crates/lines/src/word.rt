@@ -41,7 +41,7 @@ impl Name for Selector {
         }
     }
 
-    fn all() -> &'static [Selector] {
+    fn all<'a>() -> &'a [Selector] {
         &[
             Selector::RateMonotonic,
             Selector::DeadlineMonotonic,
@@ -69,7 +69,7 @@ impl Name for Word {
         }
     }
 
-    fn all() -> &'static [Word] {
+    fn all<'a>() -> &'a [Word] {
         &[
             Word::Window,
             Word::Policy,

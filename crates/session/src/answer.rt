@@ -1,5 +1,5 @@
 // An answer to a line, and the line that is printed for it.
-ghost use Rattle.std.specs.Prelude.{◌≡◌, ◌<◌, Some};
+ghost use Rattle.std.specs.Prelude.{◌≡◌, ◌<◌, ◌≤◌, Some, length};
 ghost use Rattle.session.specs.Printed.{IsShort, Says, ended, hex_byte, hex_digit, printed, refused, sent, worded};
 
 use bus::refusal::Refusal;
@@ -48,7 +48,8 @@ impl Answer {
 
     // The answer as a line, with its end.
     pub fn line(self) -> Line
-        ensures { result ≡ ended (printed self) }
+        ensures value { result ≡ ended (printed self) }
+        ensures short { length result ≤ 128 }
     {
         let mut line = self.text();
         line.push(b'\n');

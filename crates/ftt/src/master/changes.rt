@@ -33,7 +33,8 @@ impl<P: Policy> Master<P> {
     pub fn drop_row(&mut self, watch: &IdleWatch, row: u8) -> Result<(), Refusal>
         ensures { Follows P.Policy.goes (stands self.old watch.now) (to_drop row) result (stands self.new watch.now) }
     {
-        self.rows = self.dropped(row)?;
+        self.judge_drop(row)?;
+        self.rows[usize::from(row)] = None;
         Ok(())
     }
 

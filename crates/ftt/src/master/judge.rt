@@ -1,8 +1,8 @@
 // What a change would come to, with nothing changed: a change and its trial are judged alike.
 #![tactic(auto, unfolding(rules::specs::Calls::checks, rules::specs::Calls::outcome))]
 
-ghost use Rattle.std.specs.Prelude.{◌≡◌, ℕ, ◌<◌};
-ghost use Rattle.rules.specs.Calls.{with_window, with_policy};
+ghost use Rattle.std.specs.Prelude.{◌≡◌, ℕ, ◌<◌, None, IfOk};
+ghost use Rattle.rules.specs.Calls.{put, with_slots, with_window, with_policy};
 ghost use Rattle.rules.specs.Calls.Call.{add, alter, drop, set_window, set_policy};
 ghost use Rattle.ftt.specs.Held.{standing};
 ghost use Rattle.ftt.specs.Judged.{Judges, message_comes_to, told_outcome, with_rows};
@@ -48,12 +48,12 @@ impl<P: Policy> Master<P> {
         self.with_message(row, figures)
     }
 
-    // The rows without the row's message.
-    pub(crate) fn dropped(&self, row: u8) -> Result<[Option<Row>; ROWS], Refusal>
-        ensures { Judges P.Policy.goes self.now (drop row) with_rows result }
+    // A used row's message may end.
+    pub(crate) fn judge_drop(&self, row: u8) -> Result<(), Refusal>
+        ensures judged { Judges P.Policy.goes self.now (drop row) (λ _ s. with_slots P.Policy.goes 32 5040 s (put row None s.slots)) result }
+        ensures exists { IfOk result (λ _. row < 32) }
     {
-        check_used(slot(&self.rows, row)?)?;
-        Ok(with_row(&self.rows, row, None))
+        check_used(slot(&self.rows, row)?)
     }
 
     // A narrower window has to pass the rows and the rehearsal.

@@ -28,7 +28,7 @@ impl<P: Policy> Master<P> {
         match change {
             Change::Add { row, figures } => self.added(*row, *figures).map(|_| ()),
             Change::Alter { row, figures } => self.altered(*row, *figures).map(|_| ()),
-            Change::Drop { row } => self.dropped(*row).map(|_| ()),
+            Change::Drop { row } => self.judge_drop(*row),
             Change::Window { window } => self.judge_window(*window),
             Change::Policy { policy } => self.judge_policy(policy),
         }

@@ -1,3 +1,4 @@
+pub mod Durations
 pub mod Lowest
 pub mod Made
 pub mod Rising

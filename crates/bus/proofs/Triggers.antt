@@ -1,7 +1,7 @@
 -- Where each row stands in a trigger's bytes, and that nothing is lost on the way. Assumes nothing.
 use Rattle.std.proofs.Common.{◌≡◌, ℕ, zero, suc, ◌+◌, ◌-◌, ◌*◌, ◌/◌, ◌%◌, ◌^◌, ◌<◌, ◌≤◌, eqb, List, [], ◌∷◌, ◌++◌, length, get_or, take, drop, sym, refl, ap, ◌∙◌, add-zero, add_assoc, mod-eq_of_lt, div-one, arith}
 use native.Mathlib.Nat.{div-div-eq-div-mul}
-use Rattle.std.proofs.lemmas.Nat.{field_of, shr-shr}
+use Rattle.std.proofs.lemmas.Nat.{field_of, shr-shr, div_below}
 use Rattle.std.proofs.lemmas.List.{drop_more, drop-drop, take-append-drop, get_or-append_right, get_or_append_left, length-take-le}
 use lib.Arith.{digits_div, digits_mod}
 use lib.Pow.{mod-mod-pow}
@@ -52,6 +52,21 @@ second_byte w = div-div-eq-div-mul w 256 256
 
 third_byte : (w : ℕ) → w / 65536 / 256 ≡ w / 16777216
 third_byte w = div-div-eq-div-mul w 65536 256
+
+-- the bytes of a word give the word
+word_of_bytes : (w : ℕ) → w < 2 ^ 32 → w % 256 + w / 256 % 256 * 256 + w / 65536 % 256 * 65536 + w / 16777216 % 256 * 16777216 ≡ w
+word_of_bytes w h = omega (arith, second_byte w, third_byte w, div_below w 16777216 256 (omega arith) h)
+
+-- and a word that is written is what is read there
+pub put_at_word : (w : ℕ) (buffer : List ℕ) (offset : ℕ) → offset ≤ length buffer → w < 2 ^ 32 → trigger_word (put_at offset (trigger_bytes w) buffer) offset ≡ w
+put_at_word w buffer offset room h =
+    (λ i. first i + holds 1 (omega arith) i * 256 + holds 2 (omega arith) i * 65536 + holds 3 (omega arith) i * 16777216) ∙ word_of_bytes w h
+  where
+    holds : (k : ℕ) → k < 4 → get_or (put_at offset (trigger_bytes w) buffer) (offset + k) 0 ≡ get_or (trigger_bytes w) k 0
+    holds k in_four = put_at_holds (trigger_bytes w) buffer offset k room in_four
+
+    first : get_or (put_at offset (trigger_bytes w) buffer) offset 0 ≡ w % 256
+    first = ap (λ n. get_or (put_at offset (trigger_bytes w) buffer) n 0) (sym (add-zero offset)) ∙ holds 0 (omega arith)
 
 -- four bytes give the word that has them
 bytes_of_word : (a b c d : ℕ) → a < 256 → b < 256 → c < 256 → d < 256 → trigger_bytes (a + b * 256 + c * 65536 + d * 16777216) ≡ a ∷ b ∷ c ∷ d ∷ []

@@ -13,9 +13,9 @@ use Rattle.ftt.specs.Held.{standing}
 abbrev pub state_of : {P : Type 0} → List (Option Row) → (window : ℕ) → P → (lost : ℕ) → State P
 state_of rows window policy lost = record { slots = slots rows; window = window; policy = policy; lost = lost }
 
--- the state with these rows in place of its own
-abbrev pub with_rows : {P : Type 0} → List (Option Row) → State P → State P
-with_rows rows s = state_of rows s.window s.policy s.lost
+-- the state with one row changed
+abbrev pub with_slot : {P : Type 0} → ℕ → Option Row → State P → State P
+with_slot r slot s = record { slots = put r slot s.slots; window = s.window; policy = s.policy; lost = s.lost }
 
 -- a result as the rules have it: the state that its value makes, or the refusal
 abbrev pub told_outcome : {P T : Type 0} → (T → State P) → Result T Refusal → Outcome P

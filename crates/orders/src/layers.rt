@@ -51,7 +51,7 @@ impl<P: Policy> Policy for Urgent<P> {
     ghost lawful = { λ u. group_first_lawful (is_urgent u.limit) _ (P.lawful u.below) };
 
     fn goes_before(&self, a: Instance, b: Instance) -> bool {
-        group_first(self, &self.below, a, b)
+        group_first(self, &self.below, a, b) // the urgent first
     }
 
     fn label(&self) -> u8 {

@@ -7,6 +7,7 @@ ghost use Rattle.ftt.specs.Held.{stands};
 ghost use Rattle.ftt.specs.Told.{Follows};
 
 use crate::master::Master;
+use crate::master::checks::new_row;
 use crate::watch::IdleWatch;
 use bus::refusal::Refusal;
 use engine::row::Figures;
@@ -17,7 +18,8 @@ impl<P: Policy> Master<P> {
     pub fn add(&mut self, watch: &IdleWatch, row: u8, figures: Figures) -> Result<(), Refusal>
         ensures { Follows P.Policy.goes (stands self.old watch.now) (to_add row figures) result (stands self.new watch.now) }
     {
-        self.rows = self.added(row, figures)?;
+        self.judge_add(row, figures)?;
+        self.rows[usize::from(row)] = Some(new_row(figures));
         Ok(())
     }
 
@@ -25,7 +27,9 @@ impl<P: Policy> Master<P> {
     pub fn alter(&mut self, watch: &IdleWatch, row: u8, figures: Figures) -> Result<(), Refusal>
         ensures { Follows P.Policy.goes (stands self.old watch.now) (to_alter row figures) result (stands self.new watch.now) }
     {
-        self.rows = self.altered(row, figures)?;
+        self.judge_alter(row, figures)?;
+        let place = usize::from(row);
+        self.rows[place] = Some(new_row(figures));
         Ok(())
     }
 
@@ -33,7 +37,8 @@ impl<P: Policy> Master<P> {
     pub fn drop_row(&mut self, watch: &IdleWatch, row: u8) -> Result<(), Refusal>
         ensures { Follows P.Policy.goes (stands self.old watch.now) (to_drop row) result (stands self.new watch.now) }
     {
-        self.rows = self.dropped(row)?;
+        self.judge_drop(row)?;
+        self.rows[usize::from(row)] = None;
         Ok(())
     }
 

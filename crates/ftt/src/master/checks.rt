@@ -24,8 +24,8 @@ pub(crate) fn slot(rows: &[Option<Row>; ROWS], row: u8) -> Result<Option<Row>, R
         .ok_or(Refusal::RowAbove31)
 }
 
-// A copy of the table with one row changed. `row < 32` is asked here and in `with_message`, and a type for such an index
-// would be no plainer: `slot` has just told it, of the call's own number.
+// A copy of the table with one row changed. `row < 32` is asked here and in `judge_message`, and a type for such an
+// index would be no plainer: `slot` has just told it, of the call's own number.
 pub(crate) fn with_row(
     rows: &[Option<Row>; ROWS],
     row: u8,

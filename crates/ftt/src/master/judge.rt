@@ -1,11 +1,11 @@
 // What a change would come to, with nothing changed: a change and its trial are judged alike.
 #![tactic(auto, unfolding(rules::specs::Calls::checks, rules::specs::Calls::outcome))]
 
-ghost use Rattle.std.specs.Prelude.{◌≡◌, ℕ, ◌<◌};
-ghost use Rattle.rules.specs.Calls.{with_window, with_policy};
+ghost use Rattle.std.specs.Prelude.{◌≡◌, ℕ, ◌<◌, Some, None, IfOk};
+ghost use Rattle.rules.specs.Calls.{new_row, with_window, with_policy};
 ghost use Rattle.rules.specs.Calls.Call.{add, alter, drop, set_window, set_policy};
 ghost use Rattle.ftt.specs.Held.{standing};
-ghost use Rattle.ftt.specs.Judged.{Judges, message_comes_to, told_outcome, with_rows};
+ghost use Rattle.ftt.specs.Judged.{Judges, message_comes_to, told_outcome, with_slot};
 
 use crate::master::Master;
 use crate::master::checks::{
@@ -13,47 +13,47 @@ use crate::master::checks::{
     check_width, new_row, slot, with_row,
 };
 use bus::refusal::Refusal;
-use bus::rows::ROWS;
-use engine::row::{Figures, Row};
+use engine::row::Figures;
 use orders::policy::Policy;
 
 impl<P: Policy> Master<P> {
-    // The rows with a new message on one of them, whatever it held. `row` and `figures` go apart here and below: they are
-    // the call's own parameters, and the calls are public.
-    fn with_message(&self, row: u8, figures: Figures) -> Result<[Option<Row>; ROWS], Refusal>
+    // A new message on a row, whatever it held. `row` and `figures` go apart here and below: they are the call's own
+    // parameters, and the calls are public.
+    fn judge_message(&self, row: u8, figures: Figures) -> Result<(), Refusal>
         requires { row < 32 }
-        ensures { (lost : ℕ) → told_outcome (λ rows. with_rows rows (standing self.now lost)) result ≡ message_comes_to P.Policy.goes (standing self.now lost) row figures }
+        ensures { (lost : ℕ) → told_outcome (λ _. with_slot row (Some (new_row figures)) (standing self.now lost)) result ≡ message_comes_to P.Policy.goes (standing self.now lost) row figures }
     {
         check_figures(figures)?;
         check_duration(self.window, row, figures)?;
         let rows = with_row(&self.rows, row, Some(new_row(figures)));
-        check_rehearsal(&rows, self.window, &self.policy)?;
-        Ok(rows)
+        check_rehearsal(&rows, self.window, &self.policy)
     }
 
-    // The rows with a message on a free row.
-    pub(crate) fn added(&self, row: u8, figures: Figures) -> Result<[Option<Row>; ROWS], Refusal>
-        ensures { Judges P.Policy.goes self.now (add row figures) with_rows result }
+    // A message on a free row.
+    pub(crate) fn judge_add(&self, row: u8, figures: Figures) -> Result<(), Refusal>
+        ensures judged { Judges P.Policy.goes self.now (add row figures) (λ _. with_slot row (Some (new_row figures))) result }
+        ensures exists { IfOk result (λ _. row < 32) }
     {
         check_free(slot(&self.rows, row)?)?;
-        self.with_message(row, figures)
+        self.judge_message(row, figures)
     }
 
-    // The rows with another message in the place of the row's. Beside `added` for the check and the call that its clause
-    // names: a function over both would take them as parameters and be no shorter.
-    pub(crate) fn altered(&self, row: u8, figures: Figures) -> Result<[Option<Row>; ROWS], Refusal>
-        ensures { Judges P.Policy.goes self.now (alter row figures) with_rows result }
+    // Another message in the place of the row's. Beside `judge_add` for the check and the call that its clause names: a
+    // function over both would take them as parameters and be no shorter.
+    pub(crate) fn judge_alter(&self, row: u8, figures: Figures) -> Result<(), Refusal>
+        ensures judged { Judges P.Policy.goes self.now (alter row figures) (λ _. with_slot row (Some (new_row figures))) result }
+        ensures exists { IfOk result (λ _. row < 32) }
     {
         check_used(slot(&self.rows, row)?)?;
-        self.with_message(row, figures)
+        self.judge_message(row, figures)
     }
 
-    // The rows without the row's message.
-    pub(crate) fn dropped(&self, row: u8) -> Result<[Option<Row>; ROWS], Refusal>
-        ensures { Judges P.Policy.goes self.now (drop row) with_rows result }
+    // A used row's message may end.
+    pub(crate) fn judge_drop(&self, row: u8) -> Result<(), Refusal>
+        ensures judged { Judges P.Policy.goes self.now (drop row) (λ _. with_slot row None) result }
+        ensures exists { IfOk result (λ _. row < 32) }
     {
-        check_used(slot(&self.rows, row)?)?;
-        Ok(with_row(&self.rows, row, None))
+        check_used(slot(&self.rows, row)?)
     }
 
     // A narrower window has to pass the rows and the rehearsal.

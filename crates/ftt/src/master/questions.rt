@@ -26,9 +26,9 @@ impl<P: Policy> Master<P> {
         ensures { (n : ℕ) → told_answer result ≡ answer P.Policy.goes 32 5040 (standing self.now n) (call_of change.now) }
     {
         match change {
-            Change::Add { row, figures } => self.added(*row, *figures).map(|_| ()),
-            Change::Alter { row, figures } => self.altered(*row, *figures).map(|_| ()),
-            Change::Drop { row } => self.dropped(*row).map(|_| ()),
+            Change::Add { row, figures } => self.judge_add(*row, *figures),
+            Change::Alter { row, figures } => self.judge_alter(*row, *figures),
+            Change::Drop { row } => self.judge_drop(*row),
             Change::Window { window } => self.judge_window(*window),
             Change::Policy { policy } => self.judge_policy(policy),
         }

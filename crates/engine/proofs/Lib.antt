@@ -10,6 +10,7 @@ pub mod Lowest
 pub mod Made
 pub mod Multiples
 pub mod Passes
+pub mod Picked
 pub mod Rehearsed
 pub mod Schedule
 pub mod Serving

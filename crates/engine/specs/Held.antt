@@ -1,5 +1,5 @@
 -- The table as the code holds it, and what the steps of a cycle work out. Assumes nothing.
-use Rattle.std.specs.Prelude.{◌≡◌, ℕ, ◌+◌, ◌-◌, ◌<◌, ◌≤◌, Bool, true, cond, List, map, length, get_or, take, Some, None, sum_by, Option, nat_le, slice_index, slice_index_or}
+use Rattle.std.specs.Prelude.{◌≡◌, ℕ, ◌+◌, ◌-◌, ◌<◌, ◌≤◌, Bool, true, cond, ◌&&◌, List, map, length, get_or, take, Some, None, sum_by, Option, nat_le, slice_index, slice_index_or}
 use Rattle.std.specs.List.{range_with_len}
 use Rattle.std.specs.Option.{option_map}
 use Rattle.std.specs.List.Sorted.{IsPermutation}
@@ -11,7 +11,7 @@ pub use Rattle.engine.specs.Columns.{no_instance}
 use Rattle.engine.specs.declared.columns.Columns.{Columns}
 use Rattle.engine.specs.declared.rules.Rules.{Rules as By}
 use Rattle.engine.specs.Rows.{instance_of, waits, closed, misses}
-use Rattle.engine.specs.Cycle.{Slots, Rules, used_and, load, fits}
+use Rattle.engine.specs.Cycle.{Slots, Rules, used_and, waiters, load, fits}
 
 -- what each row of the list holds; past its end nothing
 abbrev pub slots : List (Option Row) → Slots
@@ -102,6 +102,15 @@ demand goes all i = i.duration + load goes all i
 -- the numbers begin with the demands of the instances, in their order
 abbrev pub Demands : Order → List Instance → List ℕ → Type 0
 Demands goes all numbers = (k : ℕ) → k < length all → slice_index numbers k ≡ demand goes all (slice_index_or all k no_instance)
+
+-- an instance x is counted in the demands of those of the first n that it goes before; the numbers after them stay
+pub record CountedIn (goes : Order) (all : List Instance) (x : Instance) (n : ℕ) (old new : List ℕ) : Type 0 where
+  pub first : (k : ℕ) → k < n → slice_index new k ≡ slice_index old k + cond (goes (slice_index_or all k no_instance) x) 0 x.duration
+  pub rest : (k : ℕ) → n ≤ k → slice_index new k ≡ slice_index old k
+
+-- whether row r waits and the demand of its instance, which comes after those of the waiting rows below it, is within the window
+abbrev pub within : (demands : List ℕ) → (window : ℕ) → Slots → ℕ → Bool
+within demands window t r = used_and (λ row. waits row && nat_le (slice_index demands (length (waiters r t))) window) (t r)
 
 -- the table at the end of a cycle, by which rows were scheduled
 abbrev pub closed_by : (scheduled : ℕ → Bool) → Slots → Slots

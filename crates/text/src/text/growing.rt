@@ -21,10 +21,11 @@ impl<const ROOM: usize> Text<ROOM> {
         self.bytes.as_slice()
     }
 
+    // By an empty one in its place: so a full text takes no longer than a short one.
     pub fn clear(&mut self)
         ensures { self.new ≡ [] }
     {
-        self.bytes.clear();
+        self.bytes = ArrayVec::new();
     }
 
     pub fn push(&mut self, byte: u8)

@@ -2,8 +2,8 @@
 # pushes and subtracts from the stack pointer, and the return address), and the deepest of the functions that it calls.
 # The 128 bytes that a function which calls nothing may use below the stack pointer are counted.
 # -v pattern=NAME picks the functions whose name begins with NAME; the largest number is printed, 0 if there are none.
-# A call into the C library (memcpy, memmove, memset, write) counts as nothing. A recursion, a call through a pointer and a
-# frame without a fixed size are told on standard error.
+# A call into the C library (memcpy, memmove, memset, write) counts as nothing. A recursion, a call through a pointer
+# and a frame without a fixed size are told on standard error.
 
 function hex(digits,    k, value) {
     value = 0

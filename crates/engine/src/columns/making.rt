@@ -19,8 +19,8 @@ const EMPTY_ROW: Instance = Instance {
 };
 
 impl Columns {
-    // The columns of a table, filled by one pass over its rows. A pass for each column took `next` half as many
-    // instructions again.
+    // The columns of a table, filled by one pass over its rows: a pass for each column took `next` up to a third more
+    // instructions. An empty row waits as long as it can, so that it is seldom due.
     pub(crate) fn of(rows: &[Option<Row>; ROWS]) -> Columns
         ensures { shows result (slots rows.now) }
     {

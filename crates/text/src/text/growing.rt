@@ -21,7 +21,7 @@ impl<const ROOM: usize> Text<ROOM> {
         self.bytes.as_slice()
     }
 
-    // By an empty one in its place: so a full text takes no longer than a short one.
+    // An empty vector in its place: `clear` of the vector goes over every byte.
     pub fn clear(&mut self)
         ensures { self.new ≡ [] }
     {

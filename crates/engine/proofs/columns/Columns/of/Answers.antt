@@ -1,4 +1,4 @@
-use Rattle.std.proofs.Common.{refl, arith}
+use Rattle.std.proofs.Common.{rules, arith}
 use Rattle.engine.proofs.Filling.{empty_place, used_place, filled_none, filled_empty, filled_used, filled_in_step, filled_stands}
 use Rattle.engine.proofs.columns.Columns.of.Goals as goal
 use Rattle.engine.proofs.columns.Columns.of.Goals.{in-Some, in_default}
@@ -14,7 +14,7 @@ loop-r-preserved c =
       | in-Some w ↦
           rw (w.kinds-is, w.periods-is, w.deadlines-is, w.waits-is, w.lefts-is)
           (filled_used r rows c.loop-r.kinds c.loop-r.periods c.loop-r.deadlines c.loop-r.waits c.loop-r.lefts c.loop-r-test.true c.loop-r.invariant _ _ _ _ _
-          (used_place _ w.in-Some.row _ _ _ _ _ w.in-Some.is w.instance.ensures refl refl refl refl))
+          (used_place _ w.in-Some.row _ _ _ _ _ w.in-Some.is w.instance.ensures (search rules) (search rules) (search rules) (search rules)))
       | in_default w ↦
           rw (w.kinds-is, w.periods-is, w.deadlines-is, w.waits-is, w.lefts-is)
           (filled_empty r rows c.loop-r.kinds c.loop-r.periods c.loop-r.deadlines c.loop-r.waits c.loop-r.lefts c.loop-r-test.true c.loop-r.invariant w.in_default.is)
